@@ -1,0 +1,26 @@
+-- End closes an open command, drops its records, zeroes its store part, and replies the number of records and of distinct
+-- bytes it had.
+use Prim.Native.Nat.{ℕ}
+use mathlib.Core.List.{List, [], _∷_}
+use mathlib.Core.Bool.{cond}
+use lib.ListN.{length}
+use Rattle.state.specs.declared.CacheState.{CacheState}
+use Rattle.state.specs.Records.{total}
+use Rattle.state.specs.State.{recordsOf, closed, withCommand}
+use Rattle.state.specs.Verdict.{Reply, replied, accepted, Check, verdict}
+use Rattle.state.specs.Checks.{commandTooHigh, storeWrongSize, stateBroken, commandNotOpen}
+use Rattle.cache.specs.Store.{zeroed}
+
+module _ (s : CacheState) (storeLen c : ℕ) where
+  -- 6, 8, 20, 21
+  abbrev pub endChecks : List Check
+  endChecks = commandTooHigh c ∷ storeWrongSize storeLen ∷ stateBroken s ∷ commandNotOpen s c ∷ []
+
+  unfoldable pub endSays : Reply
+  endSays = let rs = recordsOf s c in verdict endChecks (replied (length rs ∷ total rs ∷ []))
+
+  unfoldable pub endState : CacheState
+  endState = cond (accepted endSays) (withCommand s c closed) s
+
+unfoldable pub endStore : CacheState → List ℕ → ℕ → List ℕ
+endStore s store c = cond (accepted (endSays s (length store) c)) (zeroed store c) store

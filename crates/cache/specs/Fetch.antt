@@ -1,0 +1,42 @@
+-- Fetch delivers a span into the front of a lent destination, and holds its bytes. The answer and the state depend on the
+-- lengths of the buffers and on no byte in them.
+use Prim.Native.Nat.{ℕ, _-_}
+use mathlib.Core.List.{List, [], _∷_, map}
+use mathlib.Core.Bool.{cond}
+use lib.ListN.{length}
+use Rattle.octets.specs.Lists.{overwrite}
+use Rattle.state.specs.declared.CacheState.{CacheState}
+use Rattle.state.specs.Records.{span, addresses, fresh, joined}
+use Rattle.state.specs.State.{recordsOf, open-with, withCommand}
+use Rattle.state.specs.Verdict.{Reply, replied, accepted, Check, verdict}
+use Rattle.state.specs.Checks.{lengthTooLong, commandTooHigh, windowTooLong, storeWrongSize, outsideWindow, bufferTooShort, stateBroken, commandNotOpen, tooManyBytes, tooManyRecords}
+use Rattle.cache.specs.Store.{partOf, sees}
+
+module _ (s : CacheState) (storeLen windowLen destLen c a n : ℕ) where
+  -- 4, 6 to 10, 20, 21, 23, 24
+  abbrev pub fetchChecks : List Check
+  fetchChecks =
+      lengthTooLong n ∷ commandTooHigh c ∷ windowTooLong windowLen ∷ storeWrongSize storeLen ∷ outsideWindow windowLen a n
+      ∷ bufferTooShort destLen n ∷ stateBroken s ∷ commandNotOpen s c ∷ tooManyBytes (recordsOf s c) a n ∷ tooManyRecords (recordsOf s c) a n ∷ []
+
+  -- the reply gives two counts: fresh, and replayed, the others
+  unfoldable pub fetchSays : Reply
+  fetchSays = let f = fresh (recordsOf s c) a n in verdict fetchChecks (replied (f ∷ (n - f) ∷ []))
+
+  unfoldable pub fetchState : CacheState
+  fetchState = cond (accepted fetchSays) (withCommand s c (open-with (joined (recordsOf s c) a n))) s
+
+module _ (s : CacheState) (store window dest : List ℕ) (c a n : ℕ) where
+  -- The bytes of the joined records, as the command sees them, stand packed at the front of its part. Places of the part from
+  -- the new held count on do not change.
+  unfoldable pub fetchStore : List ℕ
+  fetchStore =
+      let rs = recordsOf s c in
+      cond (accepted (fetchSays s (length store) (length window) (length dest) c a n))
+      (overwrite store (partOf c) (map (sees rs c store window) (addresses (joined rs a n)))) store
+
+  -- the span goes to the front of the destination, which past the span does not change
+  unfoldable pub fetchDest : List ℕ
+  fetchDest =
+      cond (accepted (fetchSays s (length store) (length window) (length dest) c a n))
+      (overwrite dest 0 (map (sees (recordsOf s c) c store window) (span a n))) dest

@@ -1,0 +1,22 @@
+-- The store: where each command's part of it stands, and how a command sees a byte (01, "The book and the store").
+use Prim.Native.Nat.{ℕ, _+_, _*_}
+use mathlib.Core.List.{List}
+use mathlib.Core.Bool.{cond}
+use lib.ListN.{getD, replicate}
+use Rattle.octets.specs.Lists.{overwrite}
+use Rattle.state.specs.declared.Record.{Record}
+use Rattle.state.specs.Limits.{heldLimit}
+use Rattle.state.specs.Records.{held, place}
+
+-- Command c owns bytes 4,096 × c to 4,096 × c + 4,095. Nothing else knows where a part begins.
+abbrev pub partOf : ℕ → ℕ
+partOf c = heldLimit * c
+
+-- the store with command c's part set to zero
+abbrev pub zeroed : List ℕ → ℕ → List ℕ
+zeroed store c = overwrite store (partOf c) (replicate heldLimit 0)
+
+-- A byte inside a record is replayed from the store, where the held bytes stand at the front of the part, packed, by ascending
+-- address; any other is read from the window.
+abbrev pub sees : List Record → ℕ → List ℕ → List ℕ → ℕ → ℕ
+sees rs c store window x = cond (held rs x) (getD store (partOf c + place rs x) 0) (getD window x 0)

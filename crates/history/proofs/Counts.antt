@@ -1,0 +1,133 @@
+-- How the counts tie to the first fetches, and end's byte number to the counts, over every list of calls.
+use Prim.Native.Nat.{ℕ, zero, suc, _+_, _-_, _<_}
+use native.Mathlib.Omega.{arith}
+use mathlib.Core.Path.{_≡_, refl, ap, ap₂, subst, sym, _∙_}
+use mathlib.Core.Logic.{_≢_}
+use mathlib.Core.List.{List, [], _∷_}
+use mathlib.Core.Bool.{Bool, true, false, false≢true, cond}
+use lib.Dec.{eqb}
+use lib.ListN.{length, getD, drop}
+use borrow.Author.Tests.{eqb-true, eqb-false, eq-eqb, ne-eqb}
+use Rattle.octets.proofs.Lists.{getD-same}
+use Rattle.state.specs.declared.Record.{Record}
+use Rattle.state.specs.declared.CommandState.{CommandState}
+use Rattle.state.specs.Limits.{commandLimit}
+use Rattle.state.specs.Records.{held, place, span, total, countFresh, fresh}
+use Rattle.state.specs.State.{commandOf, recordsIn, withCommand, open-with, closed}
+use Rattle.state.specs.Verdict.{Reply, accepted}
+use Rattle.state.proofs.Laws.{total-joined}
+use Rattle.state.proofs.Commands.{command-same, command-other, records-open-with, kept, eight}
+use Rattle.cache.specs.Store.{partOf}
+use Rattle.cache.proofs.Accepted.{ended-open, ended-reply, fetched, fetched-reply}
+use Rattle.history.specs.Runs.{Call, begin, fetch, end, hostWrite, ownWrite, show, Machine, start, says, after, along}
+use Rattle.history.specs.Journal.{Event, event, told, deedOf, numbersOf}
+use Rattle.history.specs.Firsts.{Value, none, first, Memory, remember, memory, firstsAmong}
+use Rattle.history.specs.Counts.{countsIn, countsReplied, countsBy, countsOwed, bytesIn, bytesReplied, add, freshSince, sumBy, sumOwed}
+use Rattle.history.specs.Claims.{CountsTie, EndSum}
+use Rattle.history.proofs.Replaced.{replaced, Fits}
+use Rattle.history.proofs.Effects.{refused-same, old, grown, packed, zeros, begin-after, end-after, fetch-after, begin-fits, end-fits, packed-fits}
+use Rattle.history.proofs.Sound.{stored, Sound, sound-start, sound-after}
+
+-- Fresh is the number of first fetches: an address is in no record exactly if the memory has none.
+
+module _ (rs : List Record) (c : ℕ) (store window : List ℕ) (known : ℕ → Value) (same : (x : ℕ) → known x ≡ stored rs c store x) where
+  count-firsts : (xs : List ℕ) → countFresh rs xs ≡ length (firstsAmong known window xs)
+  unfolding countFresh firstsAmong
+  count-firsts [] = refl
+  count-firsts (x ∷ xs) = go (held rs x) refl (count-firsts xs)
+    where
+      go : (b : Bool) → held rs x ≡ b → countFresh rs xs ≡ length (firstsAmong known window xs) → countFresh rs (x ∷ xs) ≡ length (firstsAmong known window (x ∷ xs))
+      go true h ih = rw (h, same x, h) ih
+      go false h ih = rw (h, same x, h) (ap suc ih)
+
+counts-here : (m : Machine) (mem : Memory) (p : Call) (b : Bool) → accepted (says m p) ≡ b → Sound m mem → countsIn (says m p) (deedOf b p) ≡ countsBy mem (deedOf b p)
+unfolding countsBy
+counts-here m mem p false e S = refl
+counts-here m mem (begin c) true e S = refl
+counts-here m mem (fetch c a n dest window) true e S =
+    let F = fetched (m .state) (length (m .store)) (length window) (length dest) c a n e in
+    let same = count-firsts (old m c) c (m .store) window (mem c) (λ x. S .known c x (F .opened)) (span a n) in
+    rw (fetched-reply (m .state) (length (m .store)) (length window) (length dest) c a n e, same)
+counts-here m mem (end c) true e S = refl
+counts-here m mem (hostWrite a bytes window) true e S = refl
+counts-here m mem (ownWrite c a bytes window) true e S = refl
+counts-here m mem (show c i) true e S = refl
+
+counts-along : (past : List Event) (m : Machine) (ps : List Call) → Sound m (memory past) → told countsReplied past (along event m ps) ≡ told countsOwed past (along event m ps)
+unfolding told along memory
+counts-along past m [] S = refl
+counts-along past m (p ∷ ps) S =
+    let ok = accepted (says m p) in
+    ap₂ _∷_ (counts-here m (memory past) p ok refl S) (counts-along (event m p ∷ past) (after m p) ps (sound-after m (memory past) p ok refl S))
+
+pub counts-tie : CountsTie
+counts-tie store ps = counts-along [] (start store) ps (sound-start store)
+
+-- The bytes that an open command holds are the sum of its fresh counts.
+
+abbrev Sums : CommandState → (ℕ → ℕ) → ℕ → Type 0
+Sums p sums c = p .opened ≡ true → sums c ≡ total (recordsIn p)
+
+record Summed (m : Machine) (sums : ℕ → ℕ) : Type 0 where
+  sum : (c : ℕ) → Sums (commandOf (m .state) c) sums c
+
+module _ (m : Machine) (c : ℕ) (next : CommandState) (bytes : List ℕ) (mem : Memory) (S : Sound m mem) (F : Fits m c next bytes) (sums then : ℕ → ℕ) (C : Summed m sums)
+    (others : (d : ℕ) → d ≢ c → then d ≡ sums d) (own : Sums next then c) where
+  summed-replaced : Summed (replaced m c next bytes) then
+  summed-replaced = record { sum = each }
+    where
+      each : (d : ℕ) → Sums (commandOf (withCommand (m .state) c next) d) then d
+      each d = go (eqb d c) refl
+        where
+          go : (b : Bool) → eqb d c ≡ b → Sums (commandOf (withCommand (m .state) c next) d) then d
+          go true e =
+              subst (λ (k : ℕ). Sums (commandOf (withCommand (m .state) c next) k) then k) (sym (eqb-true d c e))
+              (subst (λ (p : CommandState). Sums p then c) (sym (command-same (m .state) c next (omega (arith, eight (m .state) (S .state .shape), F .command)))) own)
+          go false e =
+              let apart = eqb-false d c e in
+              subst (λ (p : CommandState). Sums p then d) (sym (command-other (m .state) c next d apart)) (λ o. others d apart ∙ C .sum d o)
+
+summed-after :
+    (m : Machine) (mem : Memory) (sums : ℕ → ℕ) (p : Call) (b : Bool) → accepted (says m p) ≡ b → Sound m mem → Summed m sums
+    → Summed (after m p) (add sums (says m p) (deedOf b p))
+unfolding add total
+summed-after m mem sums p false e S C = rw (refused-same m p e) C
+summed-after m mem sums (begin c) true e S C =
+    rw (begin-after m c e)
+    (summed-replaced m c (open-with []) zeros mem S (begin-fits m c e) sums _ C (λ d apart. rw (ne-eqb d c apart)) (λ o. rw (eq-eqb c c refl)))
+summed-after m mem sums (fetch c a n dest window) true e S C =
+    let F = fetched (m .state) (length (m .store)) (length window) (length dest) c a n e in
+    rw (fetch-after m c a n dest window e)
+    (summed-replaced m c (open-with (grown m c a n)) (packed m c a n window) mem S (packed-fits m c a n dest window F) sums _ C
+    (λ d apart. rw (ne-eqb d c apart))
+    (λ o. rw (eq-eqb c c refl, records-open-with (grown m c a n), fetched-reply (m .state) (length (m .store)) (length window) (length dest) c a n e, C .sum c (F .opened))
+    (sym (total-joined (old m c) a n (kept (m .state) c (F .whole) .up)))))
+summed-after m mem sums (end c) true e S C =
+    rw (end-after m c e) (summed-replaced m c closed zeros mem S (end-fits m c e) sums sums C (λ d apart. refl) (λ o. absurd (false≢true o)))
+summed-after m mem sums (hostWrite a bytes window) true e S C = C
+summed-after m mem sums (ownWrite c a bytes window) true e S C = C
+summed-after m mem sums (show c i) true e S C = C
+
+sum-here : (m : Machine) (sums : ℕ → ℕ) (p : Call) (b : Bool) → accepted (says m p) ≡ b → Summed m sums → bytesIn (says m p) (deedOf b p) ≡ sumBy sums (deedOf b p)
+sum-here m sums p false e C = refl
+sum-here m sums (begin c) true e C = refl
+sum-here m sums (fetch c a n dest window) true e C = refl
+sum-here m sums (end c) true e C =
+    rw (ended-reply (m .state) (length (m .store)) c e) (ap (λ (k : ℕ). k ∷ []) (sym (C .sum c (ended-open (m .state) (length (m .store)) c e))))
+sum-here m sums (hostWrite a bytes window) true e C = refl
+sum-here m sums (ownWrite c a bytes window) true e C = refl
+sum-here m sums (show c i) true e C = refl
+
+sums-along :
+    (past : List Event) (m : Machine) (ps : List Call) → Sound m (memory past) → Summed m (freshSince past)
+    → told bytesReplied past (along event m ps) ≡ told sumOwed past (along event m ps)
+unfolding told along memory freshSince
+sums-along past m [] S C = refl
+sums-along past m (p ∷ ps) S C =
+    let ok = accepted (says m p) in
+    ap₂ _∷_ (sum-here m (freshSince past) p ok refl C)
+    (sums-along (event m p ∷ past) (after m p) ps (sound-after m (memory past) p ok refl S) (summed-after m (memory past) (freshSince past) p ok refl S C))
+
+pub end-sum : EndSum
+end-sum store ps =
+    sums-along [] (start store) ps (sound-start store) (record { sum = λ c o. absurd (false≢true (rw (getD-same commandLimit c closed) at o)) })

@@ -1,0 +1,15 @@
+pub mod Worked
+pub mod Replaced
+pub mod Effects
+pub mod Isolation
+pub mod Invariant
+pub mod Unchanged
+pub mod Sound
+pub mod Memories
+pub mod Delivery
+pub mod SameValue
+pub mod Counts
+pub mod Alike
+pub mod Values
+pub mod EqualRuns
+pub mod Uses

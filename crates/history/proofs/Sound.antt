@@ -1,0 +1,134 @@
+-- What holds between the state, the store and the memory after every call: an open command holds just the addresses that it
+-- has fetched since its begin, each with the value first fetched.
+use Prim.Native.Nat.{ℕ, _+_, _<_, _≤_}
+use native.Mathlib.Omega.{arith}
+use mathlib.Core.Path.{_≡_, refl, ap, subst, sym, _∙_}
+use mathlib.Core.Logic.{_≢_}
+use mathlib.Core.List.{List, []}
+use mathlib.Core.Bool.{Bool, true, false, false≢true, cond, _||_}
+use lib.Dec.{eqb}
+use lib.ListN.{length, getD}
+use borrow.Author.Tests.{eqb-true, eqb-false, eq-eqb, ne-eqb}
+use Rattle.octets.proofs.Lists.{getD-same}
+use Rattle.octets.proofs.Overwrite.{overwrite-inside}
+use Rattle.state.specs.declared.Record.{Record}
+use Rattle.state.specs.declared.CommandState.{CommandState}
+use Rattle.state.specs.Limits.{commandLimit}
+use Rattle.state.specs.Records.{inSpan, held, place}
+use Rattle.state.specs.State.{commandOf, recordsIn, recordsOf, withCommand, closed, open-with}
+use Rattle.state.specs.Verdict.{accepted}
+use Rattle.state.proofs.Laws.{held-joined, place-below, at-place}
+use Rattle.state.proofs.Commands.{command-same, command-other, records-open-with, Kept, kept, eight}
+use Rattle.cache.specs.Store.{partOf, sees}
+use Rattle.cache.proofs.Accepted.{Fetched, fetched}
+use Rattle.history.specs.Runs.{Call, begin, fetch, end, hostWrite, ownWrite, show, Machine, start, says, after}
+use Rattle.history.specs.Journal.{deedOf}
+use Rattle.history.specs.Firsts.{Value, none, first, orElse, Memory, remember, memory}
+use Rattle.history.proofs.Replaced.{replaced, Fits, byte-other}
+use Rattle.history.proofs.Effects.{refused-same, old, grown, packed, zeros, begin-after, end-after, fetch-after, begin-fits, end-fits, packed-fits, length-packed, ascending-grown, total-grown}
+use Rattle.history.proofs.Invariant.{Whole, whole-start, whole-replaced}
+
+-- what the records and the store say of an address
+abbrev pub stored : List Record → ℕ → List ℕ → ℕ → Value
+stored rs c store x = cond (held rs x) (first (getD store (partOf c + place rs x) 0)) none
+
+-- the memory of an open command is what it holds
+abbrev pub Known : CommandState → List ℕ → Memory → ℕ → ℕ → Type 0
+Known p store mem c x = p .opened ≡ true → mem c x ≡ stored (recordsIn p) c store x
+
+pub record Sound (m : Machine) (mem : Memory) : Type 0 where
+  pub state : Whole (m .state)
+  pub known : (c x : ℕ) → Known (commandOf (m .state) c) (m .store) mem c x
+
+pub sound-start : (store : List ℕ) → Sound (start store) (memory [])
+unfolding memory
+sound-start store = record { state = whole-start store; known = λ c x o. absurd (false≢true (rw (getD-same commandLimit c closed) at o)) }
+
+-- A command replaced: the others know what they knew.
+
+module _ (m : Machine) (c : ℕ) (next : CommandState) (bytes : List ℕ) (F : Fits m c next bytes) (mem mem′ : Memory) (S : Sound m mem)
+    (others : (d x : ℕ) → d ≢ c → mem′ d x ≡ mem d x) (own : (x : ℕ) → Known next (replaced m c next bytes .store) mem′ c x) where
+  stored-other : (d x : ℕ) → d ≢ c → stored (recordsOf (m .state) d) d (replaced m c next bytes .store) x ≡ stored (recordsOf (m .state) d) d (m .store) x
+  stored-other d x apart = go (held (recordsOf (m .state) d) x) refl
+    where
+      rs : List Record
+      rs = recordsOf (m .state) d
+
+      K : Kept (commandOf (m .state) d)
+      K = kept (m .state) d (S .state .whole)
+
+      go : (b : Bool) → held rs x ≡ b → stored rs d (replaced m c next bytes .store) x ≡ stored rs d (m .store) x
+      go true h = rw h (ap first (byte-other F d (place rs x) apart (omega (arith, place-below 0 rs x (K .up) h, K .small))))
+      go false h = rw h
+
+  known-replaced : (d x : ℕ) → Known (commandOf (withCommand (m .state) c next) d) (replaced m c next bytes .store) mem′ d x
+  known-replaced d x = go (eqb d c) refl
+    where
+      go : (b : Bool) → eqb d c ≡ b → Known (commandOf (withCommand (m .state) c next) d) (replaced m c next bytes .store) mem′ d x
+      go true e =
+          subst (λ (k : ℕ). Known (commandOf (withCommand (m .state) c next) k) (replaced m c next bytes .store) mem′ k x) (sym (eqb-true d c e))
+          (subst (λ (p : CommandState). Known p (replaced m c next bytes .store) mem′ c x)
+          (sym (command-same (m .state) c next (omega (arith, eight (m .state) (S .state .shape), F .command)))) (own x))
+      go false e =
+          let apart = eqb-false d c e in
+          subst (λ (p : CommandState). Known p (replaced m c next bytes .store) mem′ d x) (sym (command-other (m .state) c next d apart))
+          (λ o. others d x apart ∙ S .known d x o ∙ sym (stored-other d x apart))
+
+  pub sound-replaced : Sound (replaced m c next bytes) mem′
+  sound-replaced = record { state = whole-replaced F (S .state); known = known-replaced }
+
+-- Fetch: what the command holds then is what its memory then has.
+
+merge : (h i : Bool) (u w : ℕ) → cond i (orElse (cond h (first u) none) w) (cond h (first u) none) ≡ cond (h || i) (first (cond h u w)) none
+merge true true u w = refl
+merge true false u w = refl
+merge false true u w = refl
+merge false false u w = refl
+
+module _ (m : Machine) (c a n : ℕ) (dest window : List ℕ) (F : Fetched (m .state) (length (m .store)) (length window) (length dest) c a n) where
+  abbrev rs′ : List Record
+  rs′ = grown m c a n
+
+  abbrev bytes : List ℕ
+  bytes = packed m c a n window
+
+  fetch-stored : (x : ℕ) → stored rs′ c (replaced m c (open-with rs′) bytes .store) x ≡ cond (held rs′ x) (first (sees (old m c) c (m .store) window x)) none
+  fetch-stored x = go (held rs′ x) refl
+    where
+      go : (b : Bool) → held rs′ x ≡ b → stored rs′ c (replaced m c (open-with rs′) bytes .store) x ≡ cond (held rs′ x) (first (sees (old m c) c (m .store) window x)) none
+      go true h =
+          let up = ascending-grown m c a n dest window F in
+          let size = length-packed m c a n dest window F in
+          let near : place rs′ x < length bytes = omega (arith, place-below 0 rs′ x up h) in
+          let fits : partOf c + length bytes ≤ length (m .store) = omega (arith, total-grown m c a n dest window F, F .command, F .size) in
+          rw h
+          (ap first
+          (overwrite-inside (m .store) bytes (partOf c) fits (place rs′ x) 0 near ∙ at-place (sees (old m c) c (m .store) window) 0 0 rs′ x up h))
+      go false h = rw h
+
+  fetch-known : (mem : Memory) → Sound m mem → (x : ℕ)
+      → remember mem (deedOf true (fetch c a n dest window)) c x ≡ stored rs′ c (replaced m c (open-with rs′) bytes .store) x
+  unfolding remember
+  fetch-known mem S x =
+      rw (eq-eqb c c refl, S .known c x (F .opened), fetch-stored x, held-joined (old m c) a n x)
+      (merge (held (old m c) x) (inSpan a n x) (getD (m .store) (partOf c + place (old m c) x) 0) (getD window x 0))
+
+-- Every call keeps it.
+
+pub sound-after : (m : Machine) (mem : Memory) (p : Call) (b : Bool) → accepted (says m p) ≡ b → Sound m mem → Sound (after m p) (remember mem (deedOf b p))
+unfolding remember held
+sound-after m mem p false e S = rw (refused-same m p e) S
+sound-after m mem (begin c) true e S =
+    rw (begin-after m c e)
+    (sound-replaced m c (open-with []) zeros (begin-fits m c e) mem _ S (λ d x apart. rw (ne-eqb d c apart)) (λ x o. rw (eq-eqb c c refl)))
+sound-after m mem (fetch c a n dest window) true e S =
+    let F = fetched (m .state) (length (m .store)) (length window) (length dest) c a n e in
+    rw (fetch-after m c a n dest window e)
+    (sound-replaced m c (open-with (grown m c a n)) (packed m c a n window) (packed-fits m c a n dest window F) mem _ S
+    (λ d x apart. rw (ne-eqb d c apart))
+    (λ x o. rw (records-open-with (grown m c a n)) (fetch-known m c a n dest window F mem S x)))
+sound-after m mem (end c) true e S =
+    rw (end-after m c e) (sound-replaced m c closed zeros (end-fits m c e) mem mem S (λ d x apart. refl) (λ x o. absurd (false≢true o)))
+sound-after m mem (hostWrite a bytes window) true e S = S
+sound-after m mem (ownWrite c a bytes window) true e S = S
+sound-after m mem (show c i) true e S = S

@@ -1,0 +1,82 @@
+-- A refused call, and a fetch of length 0, leave everything as it was given.
+use Prim.Native.Nat.{ℕ, _+_, _≤_}
+use native.Mathlib.Omega.{arith}
+use mathlib.Core.Path.{_≡_, refl, ap, sym, _∙_}
+use mathlib.Core.List.{List, [], map}
+use mathlib.Core.Bool.{Bool, true, false, false≢true}
+use lib.ListN.{length, getD}
+use Rattle.octets.specs.Lists.{overwrite}
+use Rattle.octets.proofs.Overwrite.{overwrite-same, overwrite-none}
+use Rattle.state.specs.declared.CacheState.{CacheState}
+use Rattle.state.specs.Records.{held, place, span, addresses, total, countFresh, joined}
+use Rattle.state.specs.State.{hasShape}
+use Rattle.state.specs.Verdict.{accepted}
+use Rattle.state.proofs.Laws.{packed-back, map-held}
+use Rattle.state.proofs.Commands.{kept, command-kept, open-with-own}
+use Rattle.cache.specs.Store.{partOf, sees}
+use Rattle.cache.specs.Fetch.{fetchDest}
+use Rattle.cache.specs.HostWrite.{hostWindow}
+use Rattle.cache.specs.OwnWrite.{ownWindow}
+use Rattle.cache.proofs.Accepted.{Fetched, fetched, fetched-reply}
+use Rattle.history.specs.Runs.{Call, begin, fetch, end, hostWrite, ownWrite, show, Machine, says, after, destGiven, destAfter, windowGiven, windowAfter}
+use Rattle.history.specs.Claims.{Unchanged, RefusedUnchanged, Empty, EmptyFetch}
+use Rattle.history.proofs.Effects.{refused-same, old, packed, fetch-after}
+
+dest-refused : (m : Machine) (p : Call) → accepted (says m p) ≡ false → destAfter m p ≡ destGiven p
+unfolding fetchDest
+dest-refused m (begin c) e = refl
+dest-refused m (fetch c a n dest window) e = rw e
+dest-refused m (end c) e = refl
+dest-refused m (hostWrite a bytes window) e = refl
+dest-refused m (ownWrite c a bytes window) e = refl
+dest-refused m (show c i) e = refl
+
+window-refused : (m : Machine) (p : Call) → accepted (says m p) ≡ false → windowAfter m p ≡ windowGiven p
+unfolding hostWindow ownWindow
+window-refused m (begin c) e = refl
+window-refused m (fetch c a n dest window) e = refl
+window-refused m (end c) e = refl
+window-refused m (hostWrite a bytes window) e = rw e
+window-refused m (ownWrite c a bytes window) e = rw e
+window-refused m (show c i) e = refl
+
+pub refused-unchanged : RefusedUnchanged
+refused-unchanged m p e = record { machine = refused-same m p e; dest = dest-refused m p e; window = window-refused m p e }
+
+-- Length 0
+
+module _ (m : Machine) (c a : ℕ) (dest window : List ℕ) (shape : hasShape (m .state) ≡ true)
+    (e : accepted (says m (fetch c a 0 dest window)) ≡ true) where
+  F : Fetched (m .state) (length (m .store)) (length window) (length dest) c a 0
+  F = fetched (m .state) (length (m .store)) (length window) (length dest) c a 0 e
+
+  -- the bytes written are those that stand there
+  packed-same : overwrite (m .store) (partOf c) (packed m c a 0 window) ≡ m .store
+  unfolding joined
+  packed-same =
+      let K = kept (m .state) c (F .whole) in
+      let fits : partOf c + total (old m c) ≤ length (m .store) = omega (arith, K .small, F .command, F .size) in
+      let stand = packed-back (m .store) (partOf c) 0 (old m c) (K .up) fits in
+      let read = map-held (sees (old m c) c (m .store) window) (λ x. getD (m .store) (partOf c + place (old m c) x) 0) (old m c) (λ x h. rw h) in
+      ap (overwrite (m .store) (partOf c)) (read ∙ stand) ∙ overwrite-same (m .store) (partOf c) (total (old m c)) fits
+
+  dest-same : destAfter m (fetch c a 0 dest window) ≡ dest
+  unfolding fetchDest span
+  dest-same = rw e (overwrite-none dest 0)
+
+  machine-same : after m (fetch c a 0 dest window) ≡ m
+  unfolding joined
+  machine-same =
+      fetch-after m c a 0 dest window e
+      ∙ (λ i. record { state = command-kept (m .state) c _ (open-with-own (m .state) c shape (F .whole) (F .opened)) i; store = packed-same i })
+
+pub empty-fetch : EmptyFetch
+unfolding span countFresh
+empty-fetch m c a dest window shape = go (accepted (says m (fetch c a 0 dest window))) refl
+  where
+    go : (b : Bool) → accepted (says m (fetch c a 0 dest window)) ≡ b → Empty m c a dest window
+    go true e = record {
+      unchanged = record { machine = machine-same m c a dest window shape e; dest = dest-same m c a dest window shape e; window = refl };
+      reply = λ _. fetched-reply (m .state) (length (m .store)) (length window) (length dest) c a 0 e;
+    }
+    go false e = record { unchanged = refused-unchanged m (fetch c a 0 dest window) e; reply = λ t. absurd (false≢true (sym e ∙ t)) }

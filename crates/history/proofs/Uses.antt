@@ -1,0 +1,56 @@
+-- The equal-runs rule at work: a count of 4, at address 2, is fetched and checked, the host writes over it, and the list behind
+-- the count is fetched together with it.
+use Prim.Native.Nat.{ℕ}
+use native.Mathlib.Omega.{arith}
+use mathlib.Core.Path.{_≡_, refl, ap}
+use mathlib.Core.List.{List, [], _∷_}
+use mathlib.Core.Logic.{_≢_}
+use lib.ListN.{getD, replicate}
+use Rattle.octets.specs.Lists.{all}
+use Rattle.state.specs.Records.{held, span, addresses, total, place, countFresh, keep, lowest, highest, joined}
+use Rattle.state.specs.State.{ascending, commandHolds, holds}
+use Rattle.state.specs.Verdict.{verdict, accepted}
+use Rattle.cache.specs.Begin.{beginSays, beginState, beginStore}
+use Rattle.cache.specs.Fetch.{fetchSays, fetchState, fetchStore, fetchDest}
+use Rattle.cache.specs.HostWrite.{hostSays}
+use Rattle.history.specs.Runs.{Call, begin, fetch, hostWrite, start, along, delivers}
+use Rattle.history.specs.Journal.{journal, told}
+use Rattle.history.specs.Firsts.{remember, memory, First, firstsAmong, firstsBy, firsts}
+use Rattle.history.specs.Claims.{common}
+use Rattle.history.proofs.EqualRuns.{equal-runs}
+
+store : List ℕ
+store = replicate 32768 0
+
+-- the window with this count
+counting : ℕ → List ℕ
+counting n = 0 ∷ 0 ∷ n ∷ 11 ∷ 12 ∷ 13 ∷ []
+
+abbrev dest : List ℕ
+dest = 0 ∷ 0 ∷ 0 ∷ 0 ∷ []
+
+-- the count as it is checked, what the host then writes, and so what stands in the window when the list is fetched
+retire : ℕ → ℕ → List Call
+unfolding counting
+retire checked written =
+    begin 1 ∷ fetch 1 2 1 dest (counting checked) ∷ hostWrite 2 (written ∷ []) (counting checked) ∷ fetch 1 2 4 dest (counting written) ∷ []
+
+-- Overwritten by 40 or left at 4: the first fetches are the same, so the firmware gets the same bytes.
+same-firsts : told firsts [] (journal store (retire 4 40)) ≡ told firsts [] (journal store (retire 4 4))
+unfolding store retire told along beginSays beginState beginStore fetchSays fetchState fetchStore hostSays verdict accepted all ascending commandHolds holds total held span countFresh keep lowest highest joined addresses place remember memory firstsAmong firstsBy
+same-firsts = refl
+
+checked-is-used : along delivers (start store) (retire 4 40) ≡ along delivers (start store) (retire 4 4)
+unfolding retire common
+checked-is-used = equal-runs store (retire 4 40) (retire 4 4) refl .exactly .1 same-firsts .1
+
+-- A count of 5 at the first fetch is another first fetch, so what is delivered differs.
+other-firsts : told firsts [] (journal store (retire 4 40)) ≢ told firsts [] (journal store (retire 5 40))
+unfolding store retire told along beginSays beginState beginStore fetchSays fetchState fetchStore hostSays verdict accepted all ascending commandHolds holds total held span countFresh keep lowest highest joined addresses place remember memory firstsAmong firstsBy
+other-firsts e = let counts : _≡_ {A = ℕ} 4 5 = ap (λ (l : List (List First)). getD (getD l 1 []) 0 (record { address = 0; value = 0 }) .value) e in omega arith
+
+other-delivered : along delivers (start store) (retire 4 40) ≢ along delivers (start store) (retire 5 40)
+unfolding retire common
+other-delivered h =
+    let runs = equal-runs store (retire 4 40) (retire 5 40) refl in
+    other-firsts (runs .exactly .0 (runs .answers, h))

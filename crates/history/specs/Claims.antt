@@ -1,0 +1,136 @@
+-- The claims about whole lists of calls, refused ones included, from the fresh state and a store of any bytes and any length.
+use Prim.Native.Nat.{ℕ, _-_}
+use mathlib.Core.Path.{_≡_}
+use mathlib.Core.List.{List, [], _∷_, map}
+use mathlib.Core.Bool.{Bool, true, false, not, _&&_}
+use mathlib.Core.Logic.{_↔_, _≢_}
+use lib.Dec.{eqb}
+use lib.ListN.{length, getD, replicate}
+use Rattle.octets.specs.Lists.{all, part}
+use Rattle.state.specs.Limits.{heldLimit}
+use Rattle.state.specs.Records.{inSpan}
+use Rattle.state.specs.State.{holds, hasShape, commandOf}
+use Rattle.state.specs.Verdict.{refused, replied, accepted}
+use Rattle.cache.specs.Store.{partOf}
+use Rattle.history.specs.Runs.{Call, begin, fetch, end, hostWrite, ownWrite, show, Machine, start, along, ran, says, stateAfter, storeAfter, after, destGiven, destAfter, windowGiven, windowAfter, delivers}
+use Rattle.history.specs.Journal.{Event, event, journal, told, Deed, began, fetched, ended, other, deed}
+use Rattle.history.specs.Firsts.{firsts, owed}
+use Rattle.history.specs.Counts.{countsReplied, countsOwed, bytesReplied, sumOwed}
+
+-- Demand 2. The delivery rule: the bytes delivered at each call are those that the first fetches since the command's begin saw.
+abbrev pub DeliveryRule : Type 0
+DeliveryRule = (store : List ℕ) (ps : List Call) → along delivers (start store) ps ≡ told owed [] (journal store ps)
+
+-- Fresh is the number of first fetches at each accepted fetch, and replayed the rest.
+abbrev pub CountsTie : Type 0
+CountsTie = (store : List ℕ) (ps : List Call) → told countsReplied [] (journal store ps) ≡ told countsOwed [] (journal store ps)
+
+-- The byte number of each accepted end is the sum of fresh over the command's accepted fetches since its begin.
+abbrev pub EndSum : Type 0
+EndSum = (store : List ℕ) (ps : List Call) → told bytesReplied [] (journal store ps) ≡ told sumOwed [] (journal store ps)
+
+-- Midas' invariant: where a command fetches an address twice, and no begin of it is accepted between the two, both deliver the
+-- same value there. (An end between them does not matter: the later fetch is accepted only after another begin.)
+abbrev pub begins : ℕ → Deed → Bool
+begins c (began d) = eqb c d
+begins c (fetched d a n window) = false
+begins c (ended d) = false
+begins c other = false
+
+module _ (store : List ℕ) (before : List Call) (c a n : ℕ) (dest window : List ℕ) (between : List Call) (a′ n′ : ℕ) (dest′ window′ : List ℕ) where
+  abbrev pub earlier : Call
+  earlier = fetch c a n dest window
+
+  abbrev pub later : Call
+  later = fetch c a′ n′ dest′ window′
+
+  abbrev pub atEarlier : Machine
+  atEarlier = ran (start store) before
+
+  abbrev pub atLater : Machine
+  atLater = ran (after atEarlier earlier) between
+
+  abbrev pub SameValue : Type 0
+  SameValue =
+      accepted (says atEarlier earlier) ≡ true → accepted (says atLater later) ≡ true
+      → all (λ e. not (begins c (deed e))) (along event (after atEarlier earlier) between) ≡ true
+      → (x : ℕ) → inSpan a n x ≡ true → inSpan a′ n′ x ≡ true
+      → getD (delivers atEarlier earlier) (x - a) 0 ≡ getD (delivers atLater later) (x - a′) 0
+
+abbrev pub SameValueRule : Type 0
+SameValueRule =
+    (store : List ℕ) (before : List Call) (c a n : ℕ) (dest window : List ℕ) (between : List Call) (a′ n′ : ℕ) (dest′ window′ : List ℕ)
+    → SameValue store before c a n dest window between a′ n′ dest′ window′
+
+-- Demand 3, the equal-runs rule. What two runs of one list have in common: the same calls at the same places, and everything
+-- given but the bytes of windows and of host writes, whose lengths agree.
+abbrev pub blank : List ℕ → List ℕ
+blank bytes = replicate (length bytes) 0
+
+unfoldable pub common : Call → Call
+common (begin c) = begin c
+common (fetch c a n dest window) = fetch c a n dest (blank window)
+common (end c) = end c
+common (hostWrite a bytes window) = hostWrite a (blank bytes) (blank window)
+common (ownWrite c a bytes window) = ownWrite c a bytes (blank window)
+common (show c i) = show c i
+
+-- Answers and states are equal after every call in either case. Answers and delivered bytes are equal exactly when the first
+-- fetches agree, and then the whole stores are equal after every call.
+pub record EqualRuns (store : List ℕ) (ps qs : List Call) : Type 0 where
+  pub answers : along says (start store) ps ≡ along says (start store) qs
+  pub states : along stateAfter (start store) ps ≡ along stateAfter (start store) qs
+  pub exactly :
+      ((along says (start store) ps ≡ along says (start store) qs) × (along delivers (start store) ps ≡ along delivers (start store) qs))
+      ↔ (told firsts [] (journal store ps) ≡ told firsts [] (journal store qs))
+  pub stores :
+      told firsts [] (journal store ps) ≡ told firsts [] (journal store qs)
+      → along storeAfter (start store) ps ≡ along storeAfter (start store) qs
+
+abbrev pub EqualRunsRule : Type 0
+EqualRunsRule = (store : List ℕ) (ps qs : List Call) → map common ps ≡ map common qs → EqualRuns store ps qs
+
+-- After every list the state holds together, in the shape that the code's types give, and so the answer 20 is never given.
+abbrev pub AlwaysHolds : Type 0
+AlwaysHolds =
+    (store : List ℕ) (ps : List Call) → (holds (ran (start store) ps .state) ≡ true) × (hasShape (ran (start store) ps .state) ≡ true)
+
+abbrev pub NeverBroken : Type 0
+NeverBroken = (store : List ℕ) (ps : List Call) (p : Call) → says (ran (start store) ps) p ≢ refused 20
+
+-- "No call changes another command's records or store part", whatever state and store it is given.
+abbrev pub names : Call → ℕ → Bool
+names (begin c) d = eqb c d
+names (fetch c a n dest window) d = eqb c d
+names (end c) d = eqb c d
+names (hostWrite a bytes window) d = false
+names (ownWrite c a bytes window) d = eqb c d
+names (show c i) d = eqb c d
+
+abbrev pub partIn : Machine → ℕ → List ℕ
+partIn m c = part (m .store) (partOf c) heldLimit
+
+pub record Alone (m : Machine) (p : Call) (d : ℕ) : Type 0 where
+  pub records : commandOf (after m p .state) d ≡ commandOf (m .state) d
+  pub bytes : partIn (after m p) d ≡ partIn m d
+
+abbrev pub Isolation : Type 0
+Isolation = (m : Machine) (p : Call) (d : ℕ) → names p d ≡ false → Alone m p d
+
+-- what a call leaves as it was given
+pub record Unchanged (m : Machine) (p : Call) : Type 0 where
+  pub machine : after m p ≡ m
+  pub dest : destAfter m p ≡ destGiven p
+  pub window : windowAfter m p ≡ windowGiven p
+
+-- "A refusal returns its number only; book, store, window, destination and output are unchanged."
+abbrev pub RefusedUnchanged : Type 0
+RefusedUnchanged = (m : Machine) (p : Call) → accepted (says m p) ≡ false → Unchanged m p
+
+-- "Length 0 changes nothing and replies 0 and 0", for every state of the shape that the code's types give.
+pub record Empty (m : Machine) (c a : ℕ) (dest window : List ℕ) : Type 0 where
+  pub unchanged : Unchanged m (fetch c a 0 dest window)
+  pub reply : accepted (says m (fetch c a 0 dest window)) ≡ true → says m (fetch c a 0 dest window) ≡ replied (0 ∷ 0 ∷ [])
+
+abbrev pub EmptyFetch : Type 0
+EmptyFetch = (m : Machine) (c a : ℕ) (dest window : List ℕ) → hasShape (m .state) ≡ true → Empty m c a dest window

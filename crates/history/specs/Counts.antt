@@ -1,0 +1,61 @@
+-- The counts of a reply, and what they are by the first fetches, told from the journal.
+use Prim.Native.Nat.{ℕ, _+_, _-_}
+use mathlib.Core.List.{List, [], _∷_}
+use mathlib.Core.Bool.{cond}
+use lib.Dec.{eqb}
+use lib.ListN.{length, getD, drop}
+use Rattle.state.specs.Records.{span}
+use Rattle.state.specs.Verdict.{Reply}
+use Rattle.history.specs.Journal.{Event, Deed, began, fetched, ended, other, deed, numbersOf}
+use Rattle.history.specs.Firsts.{Memory, memory, firstsAmong}
+
+-- the two counts that an accepted fetch replied
+abbrev pub countsIn : Reply → Deed → List ℕ
+countsIn r (began c) = []
+countsIn r (fetched c a n window) = numbersOf r
+countsIn r (ended c) = []
+countsIn r other = []
+
+abbrev pub countsReplied : List Event → Event → List ℕ
+countsReplied past e = countsIn (e .answer) (deed e)
+
+-- fresh is the number of first fetches at this event, and replayed the rest of the span
+unfoldable pub countsBy : Memory → Deed → List ℕ
+countsBy mem (began c) = []
+countsBy mem (fetched c a n window) = let f = length (firstsAmong (mem c) window (span a n)) in f ∷ (n - f) ∷ []
+countsBy mem (ended c) = []
+countsBy mem other = []
+
+abbrev pub countsOwed : List Event → Event → List ℕ
+countsOwed past e = countsBy (memory past) (deed e)
+
+-- the byte number that an accepted end replied
+abbrev pub bytesIn : Reply → Deed → List ℕ
+bytesIn r (began c) = []
+bytesIn r (fetched c a n window) = []
+bytesIn r (ended c) = drop 1 (numbersOf r)
+bytesIn r other = []
+
+abbrev pub bytesReplied : List Event → Event → List ℕ
+bytesReplied past e = bytesIn (e .answer) (deed e)
+
+-- for each command, the sum of fresh, a reply's first number, over its accepted fetches since its last accepted begin
+unfoldable pub add : (ℕ → ℕ) → Reply → Deed → ℕ → ℕ
+add sums r (began c) = λ d. cond (eqb d c) 0 (sums d)
+add sums r (fetched c a n window) = λ d. cond (eqb d c) (sums d + getD (numbersOf r) 0 0) (sums d)
+add sums r (ended c) = sums
+add sums r other = sums
+
+unfoldable pub freshSince : List Event → ℕ → ℕ
+freshSince [] = λ c. 0
+freshSince (e ∷ past) = add (freshSince past) (e .answer) (deed e)
+
+abbrev pub sumBy : (ℕ → ℕ) → Deed → List ℕ
+sumBy sums (began c) = []
+sumBy sums (fetched c a n window) = []
+sumBy sums (ended c) = sums c ∷ []
+sumBy sums other = []
+
+-- that sum, at an accepted end
+abbrev pub sumOwed : List Event → Event → List ℕ
+sumOwed past e = sumBy (freshSince past) (deed e)

@@ -1,0 +1,74 @@
+-- Which fetch of an address is a command's first since its begin, and which bytes are owed by it, told from the journal
+-- (01, "Two runs of one list").
+use Prim.Native.Nat.{ℕ}
+use mathlib.Core.List.{List, [], _∷_, map}
+use mathlib.Core.Bool.{Bool, cond, _&&_}
+use lib.Dec.{eqb}
+use lib.ListN.{getD}
+use Rattle.state.specs.Records.{inSpan, span}
+use Rattle.history.specs.Journal.{Event, Deed, began, fetched, ended, other, deed}
+
+-- the value in the window given to a first fetch, or that there was none
+pub data Value : Type 0 where
+  none : Value
+  first : ℕ → Value
+
+-- the first value stays
+abbrev pub orElse : Value → ℕ → Value
+orElse none v = first v
+orElse (first u) v = first u
+
+-- for each command and address, what the command first fetched there since its last accepted begin
+abbrev pub Memory : Type 0
+Memory = ℕ → ℕ → Value
+
+-- A begin of c forgets what c fetched. A fetch by c adds each address of its span that c had not fetched.
+unfoldable pub remember : Memory → Deed → Memory
+remember mem (began c) = λ d x. cond (eqb d c) none (mem d x)
+remember mem (fetched c a n window) = λ d x. cond (eqb d c && inSpan a n x) (orElse (mem d x) (getD window x 0)) (mem d x)
+remember mem (ended c) = mem
+remember mem other = mem
+
+unfoldable pub memory : List Event → Memory
+memory [] = λ c x. none
+memory (e ∷ past) = remember (memory past) (deed e)
+
+-- a first fetch: the address, and the value meant, which is the one in the window given to that fetch
+pub record First : Type 0 where
+  pub address : ℕ
+  pub value : ℕ
+
+abbrev pub firstIf : Value → First → List First → List First
+firstIf none f fs = f ∷ fs
+firstIf (first u) f fs = fs
+
+-- of these addresses, those not known yet
+unfoldable pub firstsAmong : (ℕ → Value) → List ℕ → List ℕ → List First
+firstsAmong known window [] = []
+firstsAmong known window (x ∷ xs) = firstIf (known x) (record { address = x; value = getD window x 0 }) (firstsAmong known window xs)
+
+unfoldable pub firstsBy : Memory → Deed → List First
+firstsBy mem (began c) = []
+firstsBy mem (fetched c a n window) = firstsAmong (mem c) window (span a n)
+firstsBy mem (ended c) = []
+firstsBy mem other = []
+
+-- The first fetches at an event: it is an accepted fetch by c, its span has the address, and no accepted fetch by c between c's
+-- last accepted begin and it has the address in its span.
+abbrev pub firsts : List Event → Event → List First
+firsts past e = firstsBy (memory past) (deed e)
+
+abbrev pub recall : Value → ℕ
+recall none = 0
+recall (first v) = v
+
+unfoldable pub owedBy : Memory → Deed → List ℕ
+owedBy mem (began c) = []
+owedBy mem (fetched c a n window) = map (λ x. recall (orElse (mem c x) (getD window x 0))) (span a n)
+owedBy mem (ended c) = []
+owedBy mem other = []
+
+-- What the delivery rule asks of an accepted fetch: each byte as it stood at the command's first accepted fetch of it since its
+-- begin, which may be this one.
+abbrev pub owed : List Event → Event → List ℕ
+owed past e = owedBy (memory past) (deed e)

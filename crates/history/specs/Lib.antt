@@ -1,0 +1,5 @@
+pub mod Runs
+pub mod Journal
+pub mod Firsts
+pub mod Counts
+pub mod Claims

@@ -1,0 +1,69 @@
+-- Laws of overwrite: the length stays, and an element is one of the bytes or, outside their place, the buffer's own.
+use Prim.Native.Nat.{ℕ, _+_, _-_, _≤_, _<_}
+use native.Mathlib.Omega.{arith}
+use native.Mathlib.Nat.{zero-add, add-zero}
+use mathlib.Core.Path.{_≡_, ap, subst, _∙_}
+use mathlib.Core.List.{List, [], _++_, append-nil}
+use lib.ListN.{length, take, drop, getD, length-append, length-take, length-drop, take-append-drop, List·getD-append}
+use lib.Seq.{length-take-le, take-at, drop-at, take-add, getD-take, getD-drop, ext-getD}
+use Rattle.octets.specs.Lists.{overwrite, part}
+use Rattle.octets.proofs.Lists.{getD-past}
+
+-- what stands in the buffer already may be written again, and no bytes leave the buffer as it was
+pub overwrite-same : (buffer : List ℕ) (at n : ℕ) → at + n ≤ length buffer → overwrite buffer at (part buffer at n) ≡ buffer
+overwrite-same buffer at n fits =
+    rw (length-take-le n (drop at buffer) (simp length-drop (omega arith)), ← take-add at n buffer) (take-append-drop (at + n) buffer)
+
+pub overwrite-none : (buffer : List ℕ) (at : ℕ) → overwrite buffer at [] ≡ buffer
+overwrite-none buffer at = rw (append-nil, add-zero) (take-append-drop at buffer)
+
+module _ (buffer bytes : List ℕ) (at : ℕ) (fits : at + length bytes ≤ length buffer) where
+  front : length (take at buffer) ≡ at
+  front = length-take-le at buffer (omega arith)
+
+  front-bytes : length (take at buffer ++ bytes) ≡ at + length bytes
+  front-bytes = length-append (take at buffer) bytes ∙ ap (λ (k : ℕ). k + length bytes) front
+
+  pub length-overwrite : length (overwrite buffer at bytes) ≡ length buffer
+  length-overwrite = simp (length-append, length-drop, front) (omega arith)
+
+  pub overwrite-inside : (i d : ℕ) → i < length bytes → getD (overwrite buffer at bytes) (at + i) d ≡ getD bytes i d
+  overwrite-inside i d h =
+      let near : at + i < length (take at buffer ++ bytes) = omega (arith, front-bytes) in
+      List·getD-append (take at buffer ++ bytes) _ d (at + i) near ∙ getD-past (take at buffer) bytes at i d front
+
+  pub overwrite-below : (i d : ℕ) → i < at → getD (overwrite buffer at bytes) i d ≡ getD buffer i d
+  overwrite-below i d h =
+      let near : i < length (take at buffer ++ bytes) = omega (arith, front-bytes) in
+      let nearer : i < length (take at buffer) = omega (arith, front) in
+      List·getD-append (take at buffer ++ bytes) _ d i near ∙ List·getD-append (take at buffer) bytes d i nearer ∙ getD-take at buffer i d h
+
+  pub overwrite-above : (i d : ℕ) → at + length bytes ≤ i → getD (overwrite buffer at bytes) i d ≡ getD buffer i d
+  overwrite-above i d h =
+      let k = i - (at + length bytes) in
+      let e : at + length bytes + k ≡ i = omega arith in
+      subst (λ (j : ℕ). getD (overwrite buffer at bytes) j d ≡ getD buffer j d) e
+      (getD-past (take at buffer ++ bytes) _ (at + length bytes) k d front-bytes ∙ getD-drop (at + length bytes) buffer k d)
+
+  -- a part of the buffer that lies beside the bytes stays as it was
+  pub part-beside :
+      (from n : ℕ) → ((i : ℕ) → i < n → getD (overwrite buffer at bytes) (from + i) 0 ≡ getD buffer (from + i) 0)
+      → part (overwrite buffer at bytes) from n ≡ part buffer from n
+  part-beside from n same = ext-getD 0 (part (overwrite buffer at bytes) from n) (part buffer from n) sizes alike
+    where
+      sizes : length (part (overwrite buffer at bytes) from n) ≡ length (part buffer from n)
+      sizes = simp (length-take, length-drop, length-overwrite)
+
+      alike : (i : ℕ) → i < length (part (overwrite buffer at bytes) from n) → getD (part (overwrite buffer at bytes) from n) i 0 ≡ getD (part buffer from n) i 0
+      alike i h =
+          let near : i < n = omega (arith, length-take n (drop from (overwrite buffer at bytes))) in
+          rw (getD-take n (drop from (overwrite buffer at bytes)) i 0 near, getD-take n (drop from buffer) i 0 near, getD-drop from (overwrite buffer at bytes) i 0, getD-drop from buffer i 0)
+          (same i near)
+
+-- bytes written to the front of a buffer
+module _ (buffer bytes : List ℕ) (n : ℕ) (size : length bytes ≡ n) where
+  pub overwrite-front : take n (overwrite buffer 0 bytes) ≡ bytes
+  overwrite-front = take-at bytes _ n size
+
+  pub overwrite-rest : drop n (overwrite buffer 0 bytes) ≡ drop n buffer
+  overwrite-rest = drop-at bytes _ n size ∙ ap (λ (k : ℕ). drop k buffer) (zero-add (length bytes) ∙ size)

@@ -1,0 +1,99 @@
+-- 01's marked situations, those with a star. Each starts with command 0 open, no records, and a window of 16,384 bytes.
+use Prim.Native.Nat.{ℕ, _+_, _*_, _%_}
+use mathlib.Core.Path.{_≡_}
+use mathlib.Core.List.{List, [], _∷_, _++_, map}
+use mathlib.Core.Bool.{true}
+use lib.ListN.{replicate}
+use Rattle.octets.specs.Lists.{all, overwrite}
+use Rattle.state.specs.declared.Record.{Record}
+use Rattle.state.specs.Records.{span}
+use Rattle.state.specs.Verdict.{Reply, refused, replied}
+use Rattle.history.specs.Runs.{Call, begin, fetch, ownWrite, start}
+use Rattle.situations.specs.Steps.{Records, unsaid, are, Step, passes}
+
+-- the byte at each address is its number modulo 256
+unfoldable pub bytesOf : ℕ → ℕ → List ℕ
+unfolding span
+bytesOf a n = map (λ x. x % 256) (span a n)
+
+unfoldable pub window : List ℕ
+unfolding bytesOf
+window = bytesOf 0 16384
+
+unfoldable pub dest : List ℕ
+dest = replicate 4096 0
+
+unfoldable pub store : List ℕ
+store = replicate 32768 5
+
+-- 01's a+n
+abbrev _∔_ : ℕ → ℕ → Record
+a ∔ n = record { start = a; len = n }
+
+infix 80 _∔_
+unfoldable pub opens : Step
+opens = record { call = begin 0; answer = replied []; bytes = []; records = are [] }
+
+-- command 0 fetches a+n and is given its bytes, or is turned away
+unfoldable pub fetches : (a n fresh replayed : ℕ) → Records → Step
+unfolding bytesOf window dest
+fetches a n fresh replayed rs = record { call = fetch 0 a n dest window; answer = replied (fresh ∷ replayed ∷ []); bytes = bytesOf a n; records = rs }
+
+unfoldable pub turnedAway : (a n number : ℕ) → Records → Step
+unfolding window dest
+turnedAway a n number rs = record { call = fetch 0 a n dest window; answer = refused number; bytes = []; records = rs }
+
+unfoldable pub A : List Step
+unfolding fetches
+A = fetches 16 4 4 0 (are (16 ∔ 4 ∷ [])) ∷ fetches 14 8 4 4 (are (14 ∔ 8 ∷ [])) ∷ []
+
+unfoldable pub B : List Step
+unfolding fetches
+B = fetches 0 4 4 0 unsaid ∷ fetches 4 4 4 0 (are (0 ∔ 4 ∷ 4 ∔ 4 ∷ [])) ∷ fetches 2 4 0 4 (are (0 ∔ 8 ∷ [])) ∷ []
+
+unfoldable pub C : List Step
+unfolding fetches
+C = fetches 16384 0 0 0 (are []) ∷ []
+
+unfoldable pub D : List Step
+unfolding fetches turnedAway
+D = fetches 16383 1 1 0 unsaid ∷ turnedAway 16384 1 9 (are (16383 ∔ 1 ∷ [])) ∷ []
+
+unfoldable pub E : List Step
+unfolding fetches turnedAway
+E = fetches 0 4096 4096 0 unsaid ∷ turnedAway 4096 1 23 (are (0 ∔ 4096 ∷ [])) ∷ fetches 0 4096 0 4096 (are (0 ∔ 4096 ∷ [])) ∷ []
+
+-- the records at the even addresses from 2 × i on, n of them
+evens : ℕ → ℕ → List Record
+unfolding span
+evens i n = map (λ k. (2 * k) ∔ 1) (span i n)
+
+unfoldable pub F : List Step
+unfolding fetches turnedAway evens span
+F =
+    map (λ k. fetches (2 * k) 1 1 0 unsaid) (span 0 64)
+    ++ turnedAway 128 1 24 (are (evens 0 64)) ∷ fetches 0 3 1 2 (are (0 ∔ 3 ∷ evens 2 62)) ∷ []
+
+unfoldable pub G : List Step
+G = record { call = begin 0; answer = refused 22; bytes = []; records = are [] } ∷ []
+
+unfoldable pub H : List Step
+unfolding turnedAway
+H = turnedAway 0 4097 4 (are []) ∷ []
+
+-- the own write changes the window, and the command still gets the old bytes
+unfoldable pub J : List Step
+unfolding fetches bytesOf window dest
+J =
+    fetches 16 2 2 0 (are (16 ∔ 2 ∷ []))
+    ∷ record { call = ownWrite 0 16 (201 ∷ 202 ∷ []) window; answer = replied (2 ∷ []); bytes = []; records = are (16 ∔ 2 ∷ []) }
+    ∷ record { call = fetch 0 16 2 dest (overwrite window 16 (201 ∷ 202 ∷ [])); answer = replied (0 ∷ 2 ∷ []); bytes = 16 ∷ 17 ∷ []; records = are (16 ∔ 2 ∷ []) }
+    ∷ []
+
+unfoldable pub situations : List (List Step)
+unfolding A B C D E F G H J
+situations = A ∷ B ∷ C ∷ D ∷ E ∷ F ∷ G ∷ H ∷ J ∷ []
+
+-- every situation passes, from the fresh state and command 0's begin on
+abbrev pub Situations : Type 0
+Situations = all (λ steps. passes (start store) (opens ∷ steps)) situations ≡ true

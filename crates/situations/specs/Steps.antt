@@ -1,0 +1,54 @@
+-- How a situation is written down and tested: calls, each with the answer, the delivered bytes and the records that it must give.
+use Prim.Native.Nat.{ℕ}
+use mathlib.Core.List.{List, [], _∷_}
+use mathlib.Core.Bool.{Bool, true, false, _&&_}
+use lib.Dec.{eqb}
+use Rattle.octets.specs.Lists.{all}
+use Rattle.state.specs.declared.Record.{Record}
+use Rattle.state.specs.Records.{held, span, addresses, total, place, countFresh, keep, lowest, highest, joined}
+use Rattle.state.specs.State.{recordsOf, ascending, commandHolds, holds}
+use Rattle.state.specs.Verdict.{Reply, refused, replied, accepted, verdict}
+use Rattle.cache.specs.Begin.{beginSays, beginState, beginStore}
+use Rattle.cache.specs.Fetch.{fetchSays, fetchState, fetchStore, fetchDest}
+use Rattle.cache.specs.OwnWrite.{ownSays}
+use Rattle.history.specs.Runs.{Call, Machine, says, after, delivers}
+
+-- the records of command 0 after a step, where 01 names them
+pub data Records : Type 0 where
+  unsaid : Records
+  are : List Record → Records
+
+pub record Step : Type 0 where
+  pub call : Call
+  pub answer : Reply
+  pub bytes : List ℕ
+  pub records : Records
+
+unfoldable pub sameNumbers : List ℕ → List ℕ → Bool
+sameNumbers [] [] = true
+sameNumbers [] (y ∷ ys) = false
+sameNumbers (x ∷ xs) [] = false
+sameNumbers (x ∷ xs) (y ∷ ys) = eqb x y && sameNumbers xs ys
+
+unfoldable pub sameAnswer : Reply → Reply → Bool
+unfolding sameNumbers
+sameAnswer (refused m) (refused n) = eqb m n
+sameAnswer (refused m) (replied ns) = false
+sameAnswer (replied ms) (refused n) = false
+sameAnswer (replied ms) (replied ns) = sameNumbers ms ns
+
+unfoldable pub sameRecords : Records → List Record → Bool
+sameRecords unsaid rs = true
+sameRecords (are []) [] = true
+sameRecords (are []) (s ∷ ss) = false
+sameRecords (are (r ∷ rs)) [] = false
+sameRecords (are (r ∷ rs)) (s ∷ ss) = eqb (r .start) (s .start) && eqb (r .len) (s .len) && sameRecords (are rs) ss
+
+-- does each step give what it must, the machine handed on from one to the next?
+unfoldable pub passes : Machine → List Step → Bool
+unfolding sameNumbers sameAnswer sameRecords beginSays beginState beginStore fetchSays fetchState fetchStore fetchDest ownSays accepted verdict all ascending commandHolds holds total held span countFresh keep lowest highest joined addresses place
+passes m [] = true
+passes m (t ∷ ts) =
+    let next = after m (t .call) in
+    sameAnswer (t .answer) (says m (t .call)) && sameNumbers (t .bytes) (delivers m (t .call)) && sameRecords (t .records) (recordsOf (next .state) 0)
+    && passes next ts

@@ -1,0 +1,127 @@
+-- Laws of the state: one command replaced, which states hold together, and what the shape of a state gives.
+use Prim.Native.Nat.{ℕ, _-_, _≤_, _<_}
+use native.Mathlib.Omega.{arith}
+use mathlib.Core.Path.{_≡_, refl, sym, ap, ap₂, _∙_}
+use mathlib.Core.Logic.{_≢_}
+use mathlib.Core.List.{List, [], _∷_, _++_}
+use mathlib.Core.Bool.{Bool, true, false, false≢true, _&&_, _||_}
+use lib.Dec.{leb, eqb}
+use lib.ListN.{length, take, drop, replicate, length-set, length-append, length-replicate, length-drop, take-append-drop}
+use lib.Seq.{getD-set-same, getD-set-other, take-append-seam, drop-append-seam, length-take-le, set-getD}
+use borrow.Author.Tests.{leb-true, le-leb, eqb-true, eq-eqb}
+use Rattle.octets.specs.Lists.{all}
+use Rattle.octets.proofs.Lists.{both, and-left, and-right, all-at, all-set, all-replicate}
+use Rattle.state.specs.declared.Record.{Record}
+use Rattle.state.specs.declared.CommandState.{CommandState}
+use Rattle.state.specs.declared.CacheState.{CacheState}
+use Rattle.state.specs.Limits.{commandLimit, recordLimit, heldLimit}
+use Rattle.state.specs.Records.{total}
+use Rattle.state.specs.State.{noRecord, closed, open-with, freshState, commandOf, recordsIn, recordsOf, withCommand, ascending, isZero, commandHolds, holds, hasShape}
+
+-- One command replaced
+
+module _ (s : CacheState) (c : ℕ) (next : CommandState) where
+  pub command-same : c < length (s .commands) → commandOf (withCommand s c next) c ≡ next
+  command-same h = getD-set-same (s .commands) c next closed h
+
+  pub command-other : (d : ℕ) → d ≢ c → commandOf (withCommand s c next) d ≡ commandOf s d
+  command-other d h = getD-set-other (s .commands) c d next closed h
+
+  pub holds-with : holds s ≡ true → commandHolds next ≡ true → holds (withCommand s c next) ≡ true
+  unfolding holds
+  holds-with h k = all-set commandHolds (s .commands) c next h k
+
+-- to put a command's own value in its place changes nothing
+pub command-kept : (s : CacheState) (c : ℕ) (next : CommandState) → next ≡ commandOf s c → withCommand s c next ≡ s
+command-kept s c next e = rw e (λ i. record { commands = set-getD (s .commands) c closed i })
+
+pub records-open-with : (rs : List Record) → recordsIn (open-with rs) ≡ rs
+records-open-with rs = take-append-seam rs (replicate (recordLimit - length rs) noRecord)
+
+-- Which states hold together
+
+pub closed-holds : commandHolds closed ≡ true
+unfolding commandHolds all ascending total
+closed-holds = refl
+
+pub fresh-holds : holds freshState ≡ true
+unfolding holds
+fresh-holds = all-replicate commandHolds commandLimit closed closed-holds
+
+pub open-with-holds : (rs : List Record) → length rs ≤ recordLimit → ascending 0 rs ≡ true → total rs ≤ heldLimit → commandHolds (open-with rs) ≡ true
+unfolding commandHolds
+open-with-holds rs few up small =
+    rw (records-open-with rs, le-leb _ _ few, up, le-leb _ _ small, drop-append-seam rs (replicate (recordLimit - length rs) noRecord), all-replicate isZero (recordLimit - length rs) noRecord refl)
+
+-- what a command that holds together keeps to
+pub record Kept (p : CommandState) : Type 0 where
+  pub few : p .count ≤ recordLimit
+  pub up : ascending 0 (recordsIn p) ≡ true
+  pub small : total (recordsIn p) ≤ heldLimit
+  pub unused : all isZero (drop (p .count) (p .records)) ≡ true
+
+kept-command : (p : CommandState) → commandHolds p ≡ true → Kept p
+unfolding commandHolds
+kept-command p h =
+    let few = leb (p .count) recordLimit in
+    let up = ascending 0 (recordsIn p) in
+    let small = leb (total (recordsIn p)) heldLimit in
+    let unused = all isZero (drop (p .count) (p .records)) in
+    let h4 = and-left (few && up && small && unused) (p .opened || eqb (p .count) 0) h in
+    let h3 = and-left (few && up && small) unused h4 in
+    let h2 = and-left (few && up) small h3 in
+    record {
+      few = leb-true _ _ (and-left few up h2);
+      up = and-right few up h2;
+      small = leb-true _ _ (and-right (few && up) small h3);
+      unused = and-right (few && up && small) unused h4;
+    }
+
+pub kept : (s : CacheState) (c : ℕ) → holds s ≡ true → Kept (commandOf s c)
+unfolding holds
+kept s c h = kept-command (commandOf s c) (all-at commandHolds (s .commands) c closed h closed-holds)
+
+-- Shape
+
+pub fresh-shape : hasShape freshState ≡ true
+unfolding all
+fresh-shape = refl
+
+pub eight : (s : CacheState) → hasShape s ≡ true → length (s .commands) ≡ commandLimit
+eight s h = eqb-true _ _ (and-left (eqb (length (s .commands)) commandLimit) _ h)
+
+pub sixty-four : (s : CacheState) (c : ℕ) → hasShape s ≡ true → length (commandOf s c .records) ≡ recordLimit
+sixty-four s c h =
+    eqb-true _ _ (all-at (λ p. eqb (length (p .records)) recordLimit) (s .commands) c closed (and-right (eqb (length (s .commands)) commandLimit) _ h) refl)
+
+pub shape-with : (s : CacheState) (c : ℕ) (next : CommandState) → hasShape s ≡ true → length (next .records) ≡ recordLimit → hasShape (withCommand s c next) ≡ true
+shape-with s c next h k =
+    both (eq-eqb _ _ (length-set (s .commands) c next ∙ eight s h))
+    (all-set (λ p. eqb (length (p .records)) recordLimit) (s .commands) c next (and-right (eqb (length (s .commands)) commandLimit) _ h) (eq-eqb _ _ k))
+
+pub length-open-with : (rs : List Record) → length rs ≤ recordLimit → length (open-with rs .records) ≡ recordLimit
+length-open-with rs few = simp (length-append, length-replicate) (omega arith)
+
+zero-record : (r : Record) → isZero r ≡ true → r ≡ noRecord
+zero-record r h =
+    let e = eqb-true _ _ (and-left (eqb (r .start) 0) (eqb (r .len) 0) h) in
+    let f = eqb-true _ _ (and-right (eqb (r .start) 0) (eqb (r .len) 0) h) in
+    λ i. record { start = e i; len = f i }
+
+zero-records : (rs : List Record) → all isZero rs ≡ true → rs ≡ replicate (length rs) noRecord
+unfolding all
+zero-records [] h = refl
+zero-records (r ∷ rs) h = ap₂ _∷_ (zero-record r (and-left (isZero r) (all isZero rs) h)) (zero-records rs (and-right (isZero r) (all isZero rs) h))
+
+-- an open command is its records, with the unused entries behind them
+pub open-with-own : (s : CacheState) (c : ℕ) → hasShape s ≡ true → holds s ≡ true → commandOf s c .opened ≡ true → open-with (recordsOf s c) ≡ commandOf s c
+open-with-own s c shape whole opened =
+    let p = commandOf s c in
+    let K = kept s c whole in
+    let size = sixty-four s c shape in
+    let front : length (recordsIn p) ≡ p .count = length-take-le (p .count) (p .records) (omega arith) in
+    let back : length (drop (p .count) (p .records)) ≡ recordLimit - length (recordsIn p) = simp (length-drop, size, front) in
+    let all-of-it : recordsIn p ++ replicate (recordLimit - length (recordsIn p)) noRecord ≡ p .records =
+    ap (λ (l : List Record). recordsIn p ++ l) (sym (zero-records (drop (p .count) (p .records)) (K .unused) ∙ ap (λ (k : ℕ). replicate k noRecord) back))
+    ∙ take-append-drop (p .count) (p .records) in
+    λ i. record { opened = sym opened i; count = front i; records = all-of-it i }

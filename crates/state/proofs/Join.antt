@@ -1,0 +1,171 @@
+-- The records after a span is joined, with the reach of the union as two numbers that grow from record to record.
+use Prim.Native.Nat.{ℕ, suc, _+_, _-_, _≤_, _<_, min, max}
+use mathlib.Core.Path.{_≡_, refl}
+use mathlib.Core.List.{List, [], _∷_, _++_}
+use mathlib.Core.Bool.{Bool, true, false, _&&_, _||_, and-false, or-assoc, or-false}
+use native.Mathlib.Omega.{arith}
+use lib.Dec.{ltb, leb}
+use borrow.Author.Tests.{lt-ltb, le-ltb, le-leb, lt-leb}
+use Rattle.octets.proofs.Lists.{both}
+use Rattle.state.specs.declared.Record.{Record}
+use Rattle.state.specs.Records.{past, inSpan, held, total, place, keep, earlier, later, lowest, highest}
+use Rattle.state.specs.State.{ascending}
+use Rattle.state.proofs.Cases.{Side, before, meets, after, side, Ascends, ascends, ascending-cons, ascending-from, leb-same, inside, below, above}
+use Rattle.state.proofs.Places.{place-all, place-none, place-low, place-max}
+
+-- the record from l to h
+abbrev pub between : ℕ → ℕ → Record
+between l h = record { start = l; len = h - l }
+
+abbrev pub met : ℕ → ℕ → List Record → List Record
+met a e = keep (λ r. ltb (r .start) e && ltb a (past r))
+
+-- the records with the span from a to e joined, where the union so far reaches from l to h: `joined` is the case l = a, h = e
+unfoldable pub merged : ℕ → ℕ → List Record → ℕ → ℕ → List Record
+merged a e rs l h = earlier a rs ++ between (lowest l (met a e rs)) (highest h (met a e rs)) ∷ later e rs
+
+-- a bound that a first record widens
+lowest-min : (s l : ℕ) (rs : List Record) → lowest (min s l) rs ≡ min s (lowest l rs)
+unfolding lowest
+lowest-min s l [] = refl
+lowest-min s l (r ∷ rs) = omega (arith, lowest-min s l rs)
+
+highest-max : (p h : ℕ) (rs : List Record) → highest (max p h) rs ≡ max p (highest h rs)
+unfolding highest
+highest-max p h [] = refl
+highest-max p h (r ∷ rs) = omega (arith, highest-max p h rs)
+
+or-left : (p q t : Bool) → (p || (q || t)) ≡ (q || (p || t))
+or-left true true t = refl
+or-left true false t = refl
+or-left false true t = refl
+or-left false false t = refl
+
+-- a record in the middle of a list counts as if it stood in front
+held-middle : (rs : List Record) (u r : Record) (ts : List Record) (x : ℕ) → held (rs ++ u ∷ r ∷ ts) x ≡ (inSpan (r .start) (r .len) x || held (rs ++ u ∷ ts) x)
+unfolding held
+held-middle [] u r ts x = or-left (inSpan (u .start) (u .len) x) (inSpan (r .start) (r .len) x) (held ts x)
+held-middle (t ∷ rs) u r ts x = rw (held-middle rs u r ts x) (or-left (inSpan (t .start) (t .len) x) (inSpan (r .start) (r .len) x) (held (rs ++ u ∷ ts) x))
+
+total-middle : (rs : List Record) (u r : Record) (ts : List Record) → total (rs ++ u ∷ r ∷ ts) ≡ r .len + total (rs ++ u ∷ ts)
+unfolding total
+total-middle [] u r ts = omega arith
+total-middle (t ∷ rs) u r ts = omega (arith, total-middle rs u r ts)
+
+-- a test that every record of an ascending list passes, or none
+keep-all : (p : Record → Bool) (lo : ℕ) (rs : List Record) → ascending lo rs ≡ true → ((r : Record) → lo ≤ r .start → p r ≡ true) → keep p rs ≡ rs
+unfolding keep
+keep-all p lo [] up yes′ = refl
+keep-all p lo (r ∷ rs) up yes′ =
+    let u = ascends lo r rs up in
+    rw (yes′ r (u .from), keep-all p (past r) rs (u .rest) (λ t k. yes′ t (omega arith)))
+
+keep-none : (p : Record → Bool) (lo : ℕ) (rs : List Record) → ascending lo rs ≡ true → ((r : Record) → lo ≤ r .start → p r ≡ false) → keep p rs ≡ []
+unfolding keep
+keep-none p lo [] up no′ = refl
+keep-none p lo (r ∷ rs) up no′ =
+    let u = ascends lo r rs up in
+    rw (no′ r (u .from)) (keep-none p (past r) rs (u .rest) (λ t k. no′ t (omega arith)))
+
+-- an address is within the union of two that overlap exactly if it is in one of them
+within-hull : (r : Record) (l h x : ℕ) → r .start ≤ h → l ≤ past r → (leb (min (r .start) l) x && ltb x (max (past r) h)) ≡ (inSpan (r .start) (r .len) x || (leb l x && ltb x h))
+within-hull r l h x j k = go (side x (suc x) r)
+  where
+    go : Side x (suc x) r → (leb (min (r .start) l) x && ltb x (max (past r) h)) ≡ (inSpan (r .start) (r .len) x || (leb l x && ltb x h))
+    go (before t) = rw (above r x t, leb-same (min (r .start) l) x l x (omega arith) (omega arith), leb-same (suc x) (max (past r) h) (suc x) h (omega arith) (omega arith))
+    go (meets s t) = rw (inside r x (omega arith) t) (both (le-leb (min (r .start) l) x (omega arith)) (lt-ltb x (max (past r) h) (omega arith)))
+    go (after t) = rw (below r x t, leb-same (min (r .start) l) x l x (omega arith) (omega arith), leb-same (suc x) (max (past r) h) (suc x) h (omega arith) (omega arith))
+
+-- the union's length is what both have, less what they share
+overlap : (r : Record) (l h : ℕ) → r .start ≤ h → l ≤ past r → l ≤ h
+    → max (past r) h + min (r .len) (h - r .start) + l ≡ r .len + h + min (r .len) (l - r .start) + min (r .start) l
+overlap r l h j k i = omega arith
+
+-- How far the union may reach when the records from lo on are still to come. It covers the span, and it begins with the span
+-- unless those records lie above a, and ends with the span or else at or below lo.
+pub record Reach (a e lo l h : ℕ) : Type 0 where
+  pub low : l ≤ a
+  pub high : e ≤ h
+  pub met-low : a ≤ max l (lo - 1)
+  pub met-high : h ≤ max e lo
+
+module _ (a e : ℕ) (wide : a < e) where
+  -- the clauses of a walk over the records: none is left, the first is before the span, or it meets the span and widens the union
+  merged-nil : (l h : ℕ) → merged a e [] l h ≡ between l h ∷ []
+  unfolding merged keep lowest highest
+  merged-nil l h = refl
+
+  merged-before : (r : Record) (rs : List Record) (l h : ℕ) → past r ≤ a → merged a e (r ∷ rs) l h ≡ r ∷ merged a e rs l h
+  unfolding merged keep
+  merged-before r rs l h k = rw (le-leb (past r) a k, le-ltb a (past r) k, and-false, lt-leb e (r .start) (omega arith))
+
+  merged-meets : (r : Record) (rs : List Record) (l h : ℕ) → r .start < e → a < past r → merged a e (r ∷ rs) l h ≡ merged a e rs (min (r .start) l) (max (past r) h)
+  unfolding merged keep lowest highest
+  merged-meets r rs l h j k = rw (lt-leb (past r) a k, lt-ltb (r .start) e j, lt-ltb a (past r) k, lt-leb e (r .start) j, lowest-min, highest-max)
+
+  -- a record after the span stays, behind the union
+  merged-after : (r : Record) (rs : List Record) (l h : ℕ) → e ≤ r .start
+      → merged a e (r ∷ rs) l h ≡ earlier a rs ++ between (lowest l (met a e rs)) (highest h (met a e rs)) ∷ r ∷ later e rs
+  unfolding merged keep
+  merged-after r rs l h k = rw (lt-leb (past r) a (omega arith), le-ltb (r .start) e k, le-leb e (r .start) k)
+
+  -- where the records begin after the span, all of them do
+  merged-past : (lo : ℕ) (rs : List Record) (l h : ℕ) → ascending lo rs ≡ true → e ≤ lo → merged a e rs l h ≡ between l h ∷ rs
+  unfolding merged lowest highest
+  merged-past lo rs l h up k =
+      rw (
+        keep-none (λ r. leb (past r) a) lo rs up (λ r j. lt-leb (past r) a (omega arith)),
+        keep-none (λ r. ltb (r .start) e && ltb a (past r)) lo rs up (λ r j. rw (le-ltb (r .start) e (omega arith))),
+        keep-all (λ r. leb e (r .start)) lo rs up (λ r j. le-leb e (r .start) (omega arith)),
+      )
+
+  pub held-merged : (rs : List Record) (l h x : ℕ) → l ≤ a → e ≤ h → held (merged a e rs l h) x ≡ (held rs x || (leb l x && ltb x h))
+  unfolding held
+  held-merged [] l h x low high = let w : l + (h - l) ≡ h = omega arith in rw (merged-nil, w, or-false)
+  held-merged (r ∷ rs) l h x low high = go (side a e r) (held-merged rs l h x low high) (held-merged rs (min (r .start) l) (max (past r) h) x)
+    where
+      go : Side a e r → held (merged a e rs l h) x ≡ (held rs x || (leb l x && ltb x h))
+          → (min (r .start) l ≤ a → e ≤ max (past r) h → held (merged a e rs (min (r .start) l) (max (past r) h)) x ≡ (held rs x || (leb (min (r .start) l) x && ltb x (max (past r) h))))
+          → held (merged a e (r ∷ rs) l h) x ≡ (held (r ∷ rs) x || (leb l x && ltb x h))
+      go (before k) same wider = rw (merged-before, or-assoc, same)
+      go (meets j k) same wider = rw (merged-meets r rs l h j k, wider (omega arith) (omega arith), within-hull r l h x (omega arith) (omega arith), or-assoc) (or-left (held rs x) (inSpan (r .start) (r .len) x) (leb l x && ltb x h))
+      go (after k) same wider = unfold merged in rw (merged-after r rs l h k, held-middle, or-assoc, same)
+
+  pub ascending-merged : (floor lo : ℕ) (rs : List Record) (l h : ℕ) → ascending lo rs ≡ true → Reach a e lo l h → floor ≤ lo → floor ≤ l → h ≤ 65536
+      → ascending floor (merged a e rs l h) ≡ true
+  ascending-merged floor lo [] l h up reach under low fits = rw merged-nil (ascending-cons (record { from = omega arith; some = omega arith; fits = omega arith; rest = unfold ascending in refl }))
+  ascending-merged floor lo (r ∷ rs) l h up reach under low fits =
+      let u = ascends lo r rs up in
+      go u (side a e r) (λ f l′ h′. ascending-merged f (past r) rs l′ h′ (u .rest))
+    where
+      go : Ascends lo r rs → Side a e r
+          → ((f l′ h′ : ℕ) → Reach a e (past r) l′ h′ → f ≤ past r → f ≤ l′ → h′ ≤ 65536 → ascending f (merged a e rs l′ h′) ≡ true)
+          → ascending floor (merged a e (r ∷ rs) l h) ≡ true
+      go u (before k) ih = rw merged-before (ascending-cons (record { from = omega arith; some = u .some; fits = u .fits; rest = ih (past r) l h (omega arith) (omega arith) (omega arith) fits }))
+      go u (meets j k) ih = rw (merged-meets r rs l h j k) (ih floor (min (r .start) l) (max (past r) h) (omega arith) (omega arith) (omega arith) (omega arith))
+      go u (after k) ih =
+          rw (merged-past (r .start) (r ∷ rs) l h (ascending-from _ u (omega arith)) k)
+          (ascending-cons (record { from = low; some = omega arith; fits = omega arith; rest = ascending-from _ u (omega arith) }))
+
+  pub total-merged : (lo : ℕ) (rs : List Record) (l h : ℕ) → ascending lo rs ≡ true → Reach a e lo l h → total (merged a e rs l h) + place rs h + l ≡ total rs + h + place rs l
+  unfolding total place
+  total-merged lo [] l h up reach = rw merged-nil (omega arith)
+  total-merged lo (r ∷ rs) l h up reach =
+      let u = ascends lo r rs up in
+      go u (side a e r) (λ l′ h′. total-merged (past r) rs l′ h′ (u .rest))
+    where
+      go : Ascends lo r rs → Side a e r
+          → ((l′ h′ : ℕ) → Reach a e (past r) l′ h′ → total (merged a e rs l′ h′) + place rs h′ + l′ ≡ total rs + h′ + place rs l′)
+          → total (merged a e (r ∷ rs) l h) + place (r ∷ rs) h + l ≡ total (r ∷ rs) + h + place (r ∷ rs) l
+      go u (before k) ih =
+          let far : past r ≤ l = omega arith in
+          rw (merged-before, place-all r h (omega arith), place-all r l far) (omega (arith, ih l h (omega arith)))
+      go u (meets j k) ih =
+          let m = ih (min (r .start) l) (max (past r) h) (omega arith) in
+          let high = place-max (past r) (past r) rs h (u .rest) (omega arith) in
+          let low = place-low (past r) rs l (u .rest) (omega arith) in
+          let low′ = place-low (past r) rs (min (r .start) l) (u .rest) (omega arith) in
+          rw (merged-meets r rs l h j k) (omega (arith, overlap r l h (omega arith) (omega arith) (omega arith)))
+      go u (after k) ih =
+          let under : h ≤ r .start = omega arith in
+          rw (merged-after r rs l h k, total-middle, place-none r h under, place-none r l (omega arith)) (unfold merged in omega (arith, ih l h (omega arith)))

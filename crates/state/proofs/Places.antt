@@ -1,0 +1,107 @@
+-- Where the held bytes stand: the place of an address, and how the place moves from one address to the next.
+use Prim.Native.Nat.{ℕ, zero, suc, _+_, _-_, _≤_, _<_, min, max}
+use mathlib.Core.Path.{_≡_, refl, sym, ap, _∙_}
+use mathlib.Core.List.{List, [], _∷_, _++_, map}
+use mathlib.Core.Bool.{Bool, true, false, cond}
+use native.Mathlib.Omega.{arith}
+use native.Mathlib.Nat.{add-zero, zero-add, suc-add, not-suc-le-zero}
+use lib.ListN.{length, take, drop, getD}
+use lib.Seq.{drop-cons}
+use Rattle.state.specs.declared.Record.{Record}
+use Rattle.state.specs.Records.{past, held, span, place, countFresh, fresh}
+use Rattle.state.specs.State.{ascending}
+use Rattle.state.proofs.Cases.{Side, before, meets, after, side, Ascends, ascends, inside, below, above}
+
+-- behind a record all of it counts
+pub place-all : (r : Record) (x : ℕ) → past r ≤ x → min (r .len) (x - r .start) ≡ r .len
+place-all r x h = omega arith
+
+pub place-none : (r : Record) (x : ℕ) → x ≤ r .start → min (r .len) (x - r .start) ≡ 0
+place-none r x h = omega arith
+
+-- at and below the first record nothing is held
+pub place-low : (lo : ℕ) (rs : List Record) (x : ℕ) → ascending lo rs ≡ true → x ≤ lo → place rs x ≡ 0
+unfolding place
+place-low lo [] x up h = refl
+place-low lo (r ∷ rs) x up h =
+    let u = ascends lo r rs up in
+    let ih = place-low (past r) rs x (u .rest) (omega arith) in
+    omega arith
+
+-- an address at or below the first record counts as the other one
+pub place-max : (p lo : ℕ) (rs : List Record) (x : ℕ) → ascending lo rs ≡ true → p ≤ lo → place rs (max p x) ≡ place rs x
+unfolding place
+place-max p lo [] x up h = refl
+place-max p lo (r ∷ rs) x up h =
+    let u = ascends lo r rs up in
+    let ih = place-max p (past r) rs x (u .rest) (omega arith) in
+    omega arith
+
+pub held-low : (lo : ℕ) (rs : List Record) (x : ℕ) → ascending lo rs ≡ true → x < lo → held rs x ≡ false
+unfolding held
+held-low lo [] x up h = refl
+held-low lo (r ∷ rs) x up h =
+    let u = ascends lo r rs up in
+    rw (below r x (omega arith)) (held-low (past r) rs x (u .rest) (omega arith))
+
+-- the place moves on by one behind each held address
+pub place-suc : (lo : ℕ) (rs : List Record) (x : ℕ) → ascending lo rs ≡ true → place rs (suc x) ≡ place rs x + cond (held rs x) 1 0
+unfolding place held
+place-suc lo [] x up = refl
+place-suc lo (r ∷ rs) x up = let u = ascends lo r rs up in go u (place-suc (past r) rs x (u .rest)) (side x (suc x) r)
+  where
+    go : Ascends lo r rs → place rs (suc x) ≡ place rs x + cond (held rs x) 1 0 → Side x (suc x) r
+        → place (r ∷ rs) (suc x) ≡ place (r ∷ rs) x + cond (held (r ∷ rs) x) 1 0
+    go u ih (before h) = rw (above r x h) (omega arith)
+    go u ih (meets h k) = rw (inside r x (omega arith) k) (omega (arith, place-low _ rs (suc x) (u .rest) k, place-low _ rs x (u .rest) (omega arith)))
+    go u ih (after h) = rw (below r x h) (omega arith)
+
+-- so the fresh addresses and the held ones of a span make up the span
+pub fresh-place : (lo : ℕ) (rs : List Record) (a n : ℕ) → ascending lo rs ≡ true → fresh rs a n + place rs (a + n) ≡ n + place rs a
+unfolding span countFresh
+fresh-place lo rs a zero up = rw (add-zero a) (omega arith)
+fresh-place lo rs a (suc n) up = go (held rs a) (place-suc lo rs a up) (fresh-place lo rs (suc a) n up) (omega arith)
+  where
+    go : (b : Bool) → place rs (suc a) ≡ place rs a + cond b 1 0 → fresh rs (suc a) n + place rs (suc a + n) ≡ n + place rs (suc a) → a + suc n ≡ suc a + n
+        → cond b (fresh rs (suc a) n) (suc (fresh rs (suc a) n)) + place rs (a + suc n) ≡ suc n + place rs a
+    go true e ih m = rw m (omega arith)
+    go false e ih m = rw m (omega arith)
+
+pub place-grows : (rs : List Record) (x y : ℕ) → x ≤ y → place rs x ≤ place rs y
+unfolding place
+place-grows [] x y h = omega arith
+place-grows (r ∷ rs) x y h = omega (arith, place-grows rs x y h)
+
+-- a list made address by address of a span and of what follows it
+pub length-span : (a n : ℕ) → length (span a n) ≡ n
+unfolding span
+length-span a zero = refl
+length-span a (suc n) = ap suc (length-span (suc a) n)
+
+pub span-at : (f : ℕ → ℕ) (d a n : ℕ) (rest : List ℕ) (i : ℕ) → i < n → getD (map f (span a n ++ rest)) i d ≡ f (a + i)
+unfolding span
+span-at f d a zero rest i h = absurd (not-suc-le-zero h)
+span-at f d a (suc n) rest zero h = rw add-zero
+span-at f d a (suc n) rest (suc i) h = span-at f d (suc a) n rest i (omega arith) ∙ ap f (omega arith)
+
+pub span-past : (f : ℕ → ℕ) (d a n : ℕ) (rest : List ℕ) (i : ℕ) → getD (map f (span a n ++ rest)) (n + i) d ≡ getD (map f rest) i d
+unfolding span
+span-past f d a zero rest i = rw zero-add
+span-past f d a (suc n) rest i = rw suc-add (span-past f d (suc a) n rest i)
+
+pub map-span : (f g : ℕ → ℕ) (a n : ℕ) (rest : List ℕ) → ((x : ℕ) → a ≤ x → x < a + n → f x ≡ g x) → map f rest ≡ map g rest
+    → map f (span a n ++ rest) ≡ map g (span a n ++ rest)
+unfolding span
+map-span f g a zero rest same e = e
+map-span f g a (suc n) rest same e =
+    rw (same a (omega arith) (omega arith), map-span f g (suc a) n rest (λ x h k. same x (omega arith) (omega arith)) e)
+
+-- a list made of a span that reads a buffer from k on
+pub map-read : (f : ℕ → ℕ) (l : List ℕ) (k a n : ℕ) → k + n ≤ length l → ((i : ℕ) → i < n → f (a + i) ≡ getD l (k + i) 0) → map f (span a n) ≡ take n (drop k l)
+unfolding span
+map-read f l k a zero fits same = refl
+map-read f l k a (suc n) fits same =
+    let first : f a ≡ getD l k 0 = ap f (sym (add-zero a)) ∙ same 0 (omega arith) ∙ ap (λ (j : ℕ). getD l j 0) (add-zero k) in
+    rw (drop-cons l k 0 (omega arith), first)
+    (ap (λ (t : List ℕ). getD l k 0 ∷ t)
+    (map-read f l (suc k) (suc a) n (omega arith) (λ i h. ap f (omega arith) ∙ same (suc i) (omega arith) ∙ ap (λ (j : ℕ). getD l j 0) (omega arith))))

@@ -1,0 +1,72 @@
+-- What a verdict tells: an accepted call's checks are all false, and where the numbers ascend the lowest that applies is given.
+use Prim.Native.Nat.{ℕ, _≤_, _<_}
+use native.Mathlib.Omega.{arith}
+use mathlib.Core.Path.{_≡_, refl}
+use mathlib.Core.Logic.{_≢_}
+use mathlib.Core.List.{List, [], _∷_}
+use mathlib.Core.Bool.{Bool, true, false, false≢true, cond, not, _&&_}
+use lib.Dec.{ltb, eqb}
+use borrow.Author.Tests.{ltb-true, eq-eqb}
+use Rattle.octets.specs.Lists.{all}
+use Rattle.octets.proofs.Lists.{and-left, and-right}
+use Rattle.state.specs.Verdict.{Reply, refused, replied, accepted, Check, _⇒_, verdict, numbers, applying, ascendFrom, minimum, lowestOr}
+
+-- Accepted
+
+abbrev pub AllFalse : List Check → Type 0
+AllFalse [] = Unit {0}
+AllFalse (c ∷ cs) = (c .applies ≡ false) × AllFalse cs
+
+clear : (b : Bool) (n : ℕ) (cs : List Check) (reply : Reply) → accepted (verdict (b ⇒ n ∷ cs) reply) ≡ true → (b ≡ false) × (accepted (verdict cs reply) ≡ true)
+unfolding accepted verdict
+clear true n cs reply e = absurd (false≢true e)
+clear false n cs reply e = (refl, e)
+
+pub none-applies : (cs : List Check) (reply : Reply) → accepted (verdict cs reply) ≡ true → AllFalse cs
+none-applies [] reply e = tt
+none-applies (c ∷ cs) reply e = let h = clear (c .applies) (c .number) cs reply e in (h .0, none-applies cs reply (h .1))
+
+-- an accepted call gives its reply
+pub given : (cs : List Check) (reply : Reply) → accepted (verdict cs reply) ≡ true → verdict cs reply ≡ reply
+unfolding verdict
+given [] reply e = refl
+given (c ∷ cs) reply e = let h = clear (c .applies) (c .number) cs reply e in rw (h .0) (given cs reply (h .1))
+
+-- The lowest
+
+-- a number below all of a list that ascends is its minimum with those of the list that apply
+lowest-first : (k floor : ℕ) (cs : List Check) → k ≤ floor → ascendFrom floor (numbers cs) ≡ true → minimum k (applying cs) ≡ k
+unfolding ascendFrom applying
+lowest-first k floor [] low up = refl
+lowest-first k floor (c ∷ cs) low up =
+    let above = ltb-true _ _ (and-left (ltb floor (c .number)) _ up) in
+    go (c .applies) above (lowest-first k (c .number) cs (omega arith) (and-right (ltb floor (c .number)) _ up))
+  where
+    go : (b : Bool) → floor < c .number → minimum k (applying cs) ≡ k → minimum k (cond b (c .number ∷ applying cs) (applying cs)) ≡ k
+    go true above ih = omega arith
+    go false above ih = ih
+
+pub verdict-lowest : (floor : ℕ) (cs : List Check) (reply : Reply) → ascendFrom floor (numbers cs) ≡ true → verdict cs reply ≡ lowestOr (applying cs) reply
+unfolding verdict ascendFrom applying lowestOr
+verdict-lowest floor [] reply up = refl
+verdict-lowest floor (c ∷ cs) reply up =
+    let rest = and-right (ltb floor (c .number)) _ up in
+    go (c .applies) refl (lowest-first (c .number) (c .number) cs (omega arith) rest) (verdict-lowest (c .number) cs reply rest)
+  where
+    go : (b : Bool) → c .applies ≡ b → minimum (c .number) (applying cs) ≡ c .number → verdict cs reply ≡ lowestOr (applying cs) reply
+        → verdict (c ∷ cs) reply ≡ lowestOr (cond b (c .number ∷ applying cs) (applying cs)) reply
+    go true e first ih = rw (e, first)
+    go false e first ih = rw e ih
+
+-- a number is not given where none of the checks that bear it applies
+pub never-given : (k : ℕ) (cs : List Check) (ns : List ℕ) → all (λ c. not (eqb (c .number) k && c .applies)) cs ≡ true → verdict cs (replied ns) ≢ refused k
+unfolding verdict all
+never-given k [] ns h = λ e. let z : _≡_ {A = ℕ} 0 1 = cc in omega arith
+never-given k (c ∷ cs) ns h = go (c .applies) refl (and-left (not (eqb (c .number) k && c .applies)) _ h) (never-given k cs ns (and-right (not (eqb (c .number) k && c .applies)) _ h))
+  where
+    go : (b : Bool) → c .applies ≡ b → not (eqb (c .number) k && c .applies) ≡ true → verdict cs (replied ns) ≢ refused k → verdict (c ∷ cs) (replied ns) ≢ refused k
+    go true a t ih e =
+        let given-this = rw a at e in
+        let is : c .number ≡ k = cc in
+        false≢true (rw (a, eq-eqb (c .number) k is) at t)
+    go false a t ih e = ih (rw a at e)

@@ -1,0 +1,60 @@
+-- The rules of records on small numbers. The first three joins are those of 01's situations A and B.
+use Prim.Native.Nat.{ℕ}
+use mathlib.Core.Path.{_≡_, refl}
+use mathlib.Core.List.{List, [], _∷_}
+use mathlib.Core.Bool.{true, false}
+use Rattle.state.specs.declared.Record.{Record}
+use Rattle.state.specs.Records.{held, span, addresses, total, place, countFresh, fresh, keep, lowest, highest, joined}
+use Rattle.state.specs.State.{ascending}
+
+abbrev _at_ : ℕ → ℕ → Record
+n at a = record { start = a; len = n }
+
+infix 80 _at_
+overlapping : joined (4 at 16 ∷ []) 14 8 ≡ 8 at 14 ∷ []
+unfolding joined keep lowest highest
+overlapping = refl
+
+touching : joined (4 at 0 ∷ []) 4 4 ≡ 4 at 0 ∷ 4 at 4 ∷ []
+unfolding joined keep lowest highest
+touching = refl
+
+bridging : joined (4 at 0 ∷ 4 at 4 ∷ []) 2 4 ≡ 8 at 0 ∷ []
+unfolding joined keep lowest highest
+bridging = refl
+
+between-others : joined (1 at 0 ∷ 2 at 8 ∷ 1 at 20 ∷ []) 9 4 ≡ 1 at 0 ∷ 5 at 8 ∷ 1 at 20 ∷ []
+unfolding joined keep lowest highest
+between-others = refl
+
+no-length : joined (1 at 0 ∷ []) 0 0 ≡ 1 at 0 ∷ []
+unfolding joined
+no-length = refl
+
+two-fresh : fresh (4 at 16 ∷ []) 15 6 ≡ 2
+unfolding countFresh span held
+two-fresh = refl
+
+packed-order : addresses (2 at 10 ∷ 3 at 20 ∷ []) ≡ 10 ∷ 11 ∷ 20 ∷ 21 ∷ 22 ∷ []
+unfolding addresses span
+packed-order = refl
+
+fourth-place : place (2 at 10 ∷ 3 at 20 ∷ []) 21 ≡ 3
+unfolding place
+fourth-place = refl
+
+five-held : total (2 at 10 ∷ 3 at 20 ∷ []) ≡ 5
+unfolding total
+five-held = refl
+
+in-order : ascending 0 (4 at 0 ∷ 4 at 4 ∷ 1 at 65535 ∷ []) ≡ true
+unfolding ascending
+in-order = refl
+
+sharing-a-byte : ascending 0 (4 at 0 ∷ 4 at 3 ∷ []) ≡ false
+unfolding ascending
+sharing-a-byte = refl
+
+past-the-last-address : ascending 0 (2 at 65535 ∷ []) ≡ false
+unfolding ascending
+past-the-last-address = refl

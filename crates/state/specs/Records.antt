@@ -1,0 +1,83 @@
+-- The records of one command: which addresses they hold, where the held bytes stand, and what a fetched span makes of them
+-- (01, "The book and the store" and the rule of fetch).
+use Prim.Native.Nat.{ℕ, zero, suc, _+_, _-_, min, max}
+use mathlib.Core.List.{List, [], _∷_, _++_}
+use mathlib.Core.Bool.{Bool, true, false, cond, _&&_, _||_}
+use lib.Dec.{ltb, leb}
+use Rattle.state.specs.declared.Record.{Record}
+
+-- the address after a record
+abbrev pub past : Record → ℕ
+past r = r .start + r .len
+
+-- is the address one of the n from a on?
+abbrev pub inSpan : ℕ → ℕ → ℕ → Bool
+inSpan a n x = leb a x && ltb x (a + n)
+
+-- is the address in one of the records?
+unfoldable pub held : List Record → ℕ → Bool
+held [] x = false
+held (r ∷ rs) x = inSpan (r .start) (r .len) x || held rs x
+
+-- 01's span a+n: the n addresses from a on
+unfoldable pub span : ℕ → ℕ → List ℕ
+span a zero = []
+span a (suc n) = a ∷ span (suc a) n
+
+-- the held addresses, in the order of the records: the packed bytes of the store part stand in this order
+unfoldable pub addresses : List Record → List ℕ
+addresses [] = []
+addresses (r ∷ rs) = span (r .start) (r .len) ++ addresses rs
+
+-- how many distinct bytes the records hold
+unfoldable pub total : List Record → ℕ
+total [] = 0
+total (r ∷ rs) = r .len + total rs
+
+-- how many held addresses lie below x, which is the place of x among the packed bytes
+unfoldable pub place : List Record → ℕ → ℕ
+place [] x = 0
+place (r ∷ rs) x = min (r .len) (x - r .start) + place rs x
+
+-- how many of the listed addresses are in no record
+unfoldable pub countFresh : List Record → List ℕ → ℕ
+countFresh rs [] = 0
+countFresh rs (x ∷ xs) = cond (held rs x) (countFresh rs xs) (suc (countFresh rs xs))
+
+-- 01's fresh: the addresses of the span that were in no record
+abbrev pub fresh : List Record → ℕ → ℕ → ℕ
+fresh rs a n = countFresh rs (span a n)
+
+unfoldable pub keep : (Record → Bool) → List Record → List Record
+keep p [] = []
+keep p (r ∷ rs) = cond (p r) (r ∷ keep p rs) (keep p rs)
+
+-- does the record share a byte with the span? (One that only touches it does not.)
+abbrev pub shares : ℕ → ℕ → Record → Bool
+shares a n r = ltb (r .start) (a + n) && ltb a (past r)
+
+-- the records that end at or before a, and those that start at or after e
+abbrev pub earlier : ℕ → List Record → List Record
+earlier a = keep (λ r. leb (past r) a)
+
+abbrev pub later : ℕ → List Record → List Record
+later e = keep (λ r. leb e (r .start))
+
+-- the lowest of a and the records' starts, and the highest of e and the addresses after them
+unfoldable pub lowest : ℕ → List Record → ℕ
+lowest a [] = a
+lowest a (r ∷ rs) = min (r .start) (lowest a rs)
+
+unfoldable pub highest : ℕ → List Record → ℕ
+highest e [] = e
+highest e (r ∷ rs) = max (past r) (highest e rs)
+
+-- one record over the span and the records that it meets
+abbrev pub union : ℕ → ℕ → List Record → Record
+union a n met = record { start = lowest a met; len = highest (a + n) met - lowest a met }
+
+-- The records after the span is held: if its length is 1 or more, every record that shares a byte with it is replaced,
+-- together with the span, by one record over their union.
+unfoldable pub joined : List Record → ℕ → ℕ → List Record
+joined rs a zero = rs
+joined rs a (suc n) = earlier a rs ++ union a (suc n) (keep (shares a (suc n)) rs) ∷ later (a + suc n) rs

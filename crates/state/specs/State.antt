@@ -1,0 +1,65 @@
+-- The cache's state, 01's book: the fresh one, what each command holds, and which states hold together.
+use Prim.Native.Nat.{ℕ, _-_}
+use mathlib.Core.List.{List, [], _∷_, _++_}
+use mathlib.Core.Bool.{Bool, true, false, _&&_, _||_}
+use lib.Dec.{ltb, leb, eqb}
+use lib.ListN.{length, take, drop, getD, replicate, set}
+use Rattle.octets.specs.Lists.{all}
+use Rattle.state.specs.declared.Record.{Record}
+use Rattle.state.specs.declared.CommandState.{CommandState}
+use Rattle.state.specs.declared.CacheState.{CacheState}
+use Rattle.state.specs.Limits.{commandLimit, recordLimit, heldLimit, windowLimit}
+use Rattle.state.specs.Records.{past, total}
+
+-- an unused record entry is zero
+abbrev pub noRecord : Record
+noRecord = record { start = 0; len = 0 }
+
+-- a closed command has no records
+abbrev pub closed : CommandState
+closed = record { opened = false; count = 0; records = replicate recordLimit noRecord }
+
+-- an open command with these records
+abbrev pub open-with : List Record → CommandState
+open-with rs = record { opened = true; count = length rs; records = rs ++ replicate (recordLimit - length rs) noRecord }
+
+-- the fresh book has all commands closed
+abbrev pub freshState : CacheState
+freshState = record { commands = replicate commandLimit closed }
+
+abbrev pub commandOf : CacheState → ℕ → CommandState
+commandOf s c = getD (s .commands) c closed
+
+abbrev pub recordsIn : CommandState → List Record
+recordsIn c = take (c .count) (c .records)
+
+abbrev pub recordsOf : CacheState → ℕ → List Record
+recordsOf s c = recordsIn (commandOf s c)
+
+abbrev pub isOpen : CacheState → ℕ → Bool
+isOpen s c = commandOf s c .opened
+
+abbrev pub withCommand : CacheState → ℕ → CommandState → CacheState
+withCommand s c next = record { commands = set (s .commands) c next }
+
+-- in ascending order from lo on, each of length 1 or more, no two sharing a byte, none reaching past address 65,535
+unfoldable pub ascending : ℕ → List Record → Bool
+ascending lo [] = true
+ascending lo (r ∷ rs) = leb lo (r .start) && ltb 0 (r .len) && leb (past r) windowLimit && ascending (past r) rs
+
+abbrev pub isZero : Record → Bool
+isZero r = eqb (r .start) 0 && eqb (r .len) 0
+
+-- a command's records are at most 64, in order, together at most 4,096 bytes; unused entries are zero; a closed command has none
+unfoldable pub commandHolds : CommandState → Bool
+commandHolds c =
+    leb (c .count) recordLimit && ascending 0 (recordsIn c) && leb (total (recordsIn c)) heldLimit
+    && all isZero (drop (c .count) (c .records)) && (c .opened || eqb (c .count) 0)
+
+-- the book holds together (otherwise 20)
+unfoldable pub holds : CacheState → Bool
+holds s = all commandHolds (s .commands)
+
+-- What the types of the code give of every state: 8 commands of 64 record entries.
+abbrev pub hasShape : CacheState → Bool
+hasShape s = eqb (length (s .commands)) commandLimit && all (λ c. eqb (length (c .records)) recordLimit) (s .commands)

@@ -1,0 +1,50 @@
+-- What a call answers: the number of a refusal, or the numbers of its reply.
+use Prim.Native.Nat.{ℕ, min}
+use mathlib.Core.List.{List, [], _∷_, map}
+use mathlib.Core.Bool.{Bool, true, false, cond, _&&_}
+use lib.Dec.{ltb}
+
+-- 01's answer: the refusal number or the whole reply
+pub data Reply : Type 0 where
+  refused : ℕ → Reply
+  replied : List ℕ → Reply
+
+unfoldable pub accepted : Reply → Bool
+accepted (refused n) = false
+accepted (replied ns) = true
+
+-- a reason to turn a call away: whether it applies, and its number
+pub record Check : Type 0 where
+  pub applies : Bool
+  pub number : ℕ
+
+abbrev pub _⇒_ : Bool → ℕ → Check
+applies ⇒ n = record { applies = applies; number = n }
+
+infix 80 _⇒_
+-- the first check that applies gives its number
+unfoldable pub verdict : List Check → Reply → Reply
+verdict [] reply = reply
+verdict (c ∷ cs) reply = elim (c .applies) [ true ↦ refused (c .number) | false ↦ verdict cs reply ]
+
+-- the numbers of a list of checks, and of those that apply
+abbrev pub numbers : List Check → List ℕ
+numbers cs = map (λ c. c .number) cs
+
+unfoldable pub applying : List Check → List ℕ
+applying [] = []
+applying (c ∷ cs) = cond (c .applies) (c .number ∷ applying cs) (applying cs)
+
+-- does each number stand above the one before it, and the first above k?
+unfoldable pub ascendFrom : ℕ → List ℕ → Bool
+ascendFrom k [] = true
+ascendFrom k (n ∷ ns) = ltb k n && ascendFrom n ns
+
+abbrev pub minimum : ℕ → List ℕ → ℕ
+minimum k [] = k
+minimum k (n ∷ ns) = min n (minimum k ns)
+
+-- "The lowest number that applies is given, and none if none applies": what a verdict is where its checks' numbers ascend
+unfoldable pub lowestOr : List ℕ → Reply → Reply
+lowestOr [] reply = reply
+lowestOr (k ∷ ks) reply = refused (minimum k ks)

@@ -1,0 +1,51 @@
+// Why a call or a frame is turned away: a case for each number of document 01's two lists.
+ghost use mathlib.Core.Path.{_≡_};
+ghost use Rattle.state.specs.Refusals.{number};
+
+pub enum Refusal {
+    // because of the input
+    FrameTooShort,
+    UnknownKind,
+    FieldNotZero,
+    LengthTooLong,
+    DataMismatch,
+    CommandTooHigh,
+    WindowTooLong,
+    StoreWrongSize,
+    OutsideWindow,
+    BufferTooShort,
+    AddressTooHigh,
+    // because of the state
+    StateBroken,
+    CommandNotOpen,
+    CommandAlreadyOpen,
+    TooManyBytes,
+    TooManyRecords,
+    NoSuchRecord,
+}
+
+impl Refusal {
+    pub fn number(self) -> u8
+        ensures { λ r. ⌜ r ≡ number self ⌝ }
+    {
+        match self {
+            Refusal::FrameTooShort => 1,
+            Refusal::UnknownKind => 2,
+            Refusal::FieldNotZero => 3,
+            Refusal::LengthTooLong => 4,
+            Refusal::DataMismatch => 5,
+            Refusal::CommandTooHigh => 6,
+            Refusal::WindowTooLong => 7,
+            Refusal::StoreWrongSize => 8,
+            Refusal::OutsideWindow => 9,
+            Refusal::BufferTooShort => 10,
+            Refusal::AddressTooHigh => 11,
+            Refusal::StateBroken => 20,
+            Refusal::CommandNotOpen => 21,
+            Refusal::CommandAlreadyOpen => 22,
+            Refusal::TooManyBytes => 23,
+            Refusal::TooManyRecords => 24,
+            Refusal::NoSuchRecord => 25,
+        }
+    }
+}

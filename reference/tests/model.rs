@@ -1,0 +1,211 @@
+//! A model of the cache kept from the calls alone. For each command it has a
+//! map from address to the value first fetched since the begin; which record
+//! an address belongs to is a label on the address, and joining is a change of
+//! labels.
+
+use std::collections::{BTreeMap, BTreeSet};
+
+use reference::book::Book;
+
+/// What the model knows of one held address.
+#[derive(Clone, Copy)]
+struct Cell {
+    value: u8,
+    label: u64,
+}
+
+/// What an accepted fetch must answer and deliver.
+pub struct Delivery {
+    pub fresh: u64,
+    pub replayed: u64,
+    pub bytes: Vec<u8>,
+    /// How many records the span met.
+    pub met: usize,
+}
+
+/// The model: the held addresses of each open command, and what store and
+/// window must contain.
+pub struct Model {
+    commands: [Option<BTreeMap<u64, Cell>>; 8],
+    fresh_since_begin: [u64; 8],
+    labels: u64,
+    pub store: Vec<u8>,
+    pub window: Vec<u8>,
+}
+
+impl Model {
+    /// All commands closed, with store and window as they are.
+    pub fn fresh(store: &[u8], window: &[u8]) -> Model {
+        Model {
+            commands: [const { None }; 8],
+            fresh_since_begin: [0; 8],
+            labels: 0,
+            store: store.to_vec(),
+            window: window.to_vec(),
+        }
+    }
+
+    /// A model of a book that holds together and of the bytes in its store.
+    pub fn of_book(book: &Book, store: &[u8], window: &[u8]) -> Model {
+        let mut model = Model::fresh(store, window);
+        for (number, command) in book.commands.iter().enumerate() {
+            if !command.open {
+                continue;
+            }
+            let mut held = BTreeMap::new();
+            for record in &command.entries[..command.count as usize] {
+                model.labels += 1;
+                for address in record.start..record.start + record.length {
+                    let value = store[4_096 * number + held.len()];
+                    let label = model.labels;
+                    held.insert(address, Cell { value, label });
+                }
+            }
+            model.fresh_since_begin[number] = held.len() as u64;
+            model.commands[number] = Some(held);
+        }
+        model
+    }
+
+    pub fn begin(&mut self, command: u64) -> Result<(), u8> {
+        let place = known(command)?;
+        if self.commands[place].is_some() {
+            return Err(22);
+        }
+        self.commands[place] = Some(BTreeMap::new());
+        self.fresh_since_begin[place] = 0;
+        self.zero_part(place);
+        Ok(())
+    }
+
+    /// Answers the number of records, and as the number of bytes the sum of
+    /// all fresh counts since the begin.
+    pub fn end(&mut self, command: u64) -> Result<(u64, u64), u8> {
+        let place = known(command)?;
+        if self.commands[place].is_none() {
+            return Err(21);
+        }
+        let records = self.records(command).len() as u64;
+        self.commands[place] = None;
+        self.zero_part(place);
+        Ok((records, self.fresh_since_begin[place]))
+    }
+
+    pub fn fetch(&mut self, command: u64, address: u64, length: u64) -> Result<Delivery, u8> {
+        if length > 4_096 {
+            return Err(4);
+        }
+        let place = known(command)?;
+        self.inside_window(address, length)?;
+        let held = self.commands[place].as_mut().ok_or(21)?;
+
+        let span = address..address + length;
+        let fresh = length as usize - held.range(span.clone()).count();
+        if held.len() + fresh > 4_096 {
+            return Err(23);
+        }
+        let labels: BTreeSet<u64> = held.values().map(|cell| cell.label).collect();
+        let met: BTreeSet<u64> = held.range(span.clone()).map(|(_, c)| c.label).collect();
+        let added = usize::from(length > 0);
+        if labels.len() - met.len() + added > 64 {
+            return Err(24);
+        }
+
+        self.labels += 1;
+        for at in span.clone() {
+            let value = self.window[at as usize];
+            let label = self.labels;
+            held.entry(at).or_insert(Cell { value, label });
+        }
+        for cell in held.values_mut() {
+            if met.contains(&cell.label) {
+                cell.label = self.labels;
+            }
+        }
+        for (number, cell) in held.values().enumerate() {
+            self.store[4_096 * place + number] = cell.value;
+        }
+        self.fresh_since_begin[place] += fresh as u64;
+        Ok(Delivery {
+            fresh: fresh as u64,
+            replayed: length - fresh as u64,
+            bytes: held.range(span).map(|(_, cell)| cell.value).collect(),
+            met: met.len(),
+        })
+    }
+
+    pub fn host_write(&mut self, address: u64, data: &[u8]) -> Result<u64, u8> {
+        if data.len() > 4_096 {
+            return Err(4);
+        }
+        self.inside_window(address, data.len() as u64)?;
+        for (place, byte) in data.iter().enumerate() {
+            self.window[address as usize + place] = *byte;
+        }
+        Ok(data.len() as u64)
+    }
+
+    pub fn own_write(&mut self, command: u64, address: u64, data: &[u8]) -> Result<u64, u8> {
+        if data.len() > 4_096 {
+            return Err(4);
+        }
+        let place = known(command)?;
+        self.inside_window(address, data.len() as u64)?;
+        if self.commands[place].is_none() {
+            return Err(21);
+        }
+        self.host_write(address, data)
+    }
+
+    pub fn show(&self, command: u64, index: u64) -> Result<(u64, u64), u8> {
+        let place = known(command)?;
+        if self.commands[place].is_none() {
+            return Err(21);
+        }
+        let records = self.records(command);
+        records.get(index as usize).copied().ok_or(25)
+    }
+
+    pub fn is_open(&self, command: u64) -> bool {
+        self.commands[command as usize].is_some()
+    }
+
+    /// Start and length of each run of addresses with the same label.
+    pub fn records(&self, command: u64) -> Vec<(u64, u64)> {
+        let mut records: Vec<(u64, u64)> = vec![];
+        let mut last = None;
+        for (&address, cell) in self.commands[command as usize].iter().flatten() {
+            match records.last_mut() {
+                Some(record) if last == Some(cell.label) => {
+                    assert_eq!(record.0 + record.1, address, "a record with a gap");
+                    record.1 += 1;
+                }
+                _ => records.push((address, 1)),
+            }
+            last = Some(cell.label);
+        }
+        records
+    }
+
+    fn inside_window(&self, address: u64, length: u64) -> Result<(), u8> {
+        let room = self.window.len() as u64;
+        if length <= room && address <= room - length {
+            Ok(())
+        } else {
+            Err(9)
+        }
+    }
+
+    fn zero_part(&mut self, place: usize) {
+        self.store[4_096 * place..4_096 * place + 4_096].fill(0);
+    }
+}
+
+/// The place of a command, if there is one of that number.
+fn known(command: u64) -> Result<usize, u8> {
+    if command < 8 {
+        Ok(command as usize)
+    } else {
+        Err(6)
+    }
+}

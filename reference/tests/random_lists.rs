@@ -1,0 +1,328 @@
+//! 2,000 lists of calls from the fresh book, 250 of each profile. After each
+//! call the reply, the book, the whole store, the window and the destination
+//! are held against the model.
+
+use std::collections::BTreeMap;
+
+use reference::book::{Book, CommandBook};
+
+use crate::generator::Generator;
+use crate::model::Model;
+use crate::scene::{open_with, Scene};
+
+/// How the calls of a list are chosen.
+pub struct Profile {
+    pub seed: u64,
+    pub lists: u64,
+    pub calls: u64,
+    pub window_length: usize,
+    /// So many commands take part, from 0 on.
+    pub commands: u64,
+    /// One call in so many is an end.
+    pub ends: u64,
+    /// Chooses the address and length of a fetch in a window of that length.
+    pub span: fn(&mut Generator, u64) -> (u64, u64),
+}
+
+/// What happened in all lists of a profile.
+#[derive(Debug, Default)]
+pub struct Tally {
+    pub accepted_fetches: u64,
+    pub refusals: BTreeMap<u8, u64>,
+    /// Fetches that joined several records into one.
+    pub joins: u64,
+    /// Fetches that had both fresh and replayed bytes.
+    pub mixed: u64,
+    /// Accepted fetches without a byte.
+    pub empty: u64,
+}
+
+impl Tally {
+    /// How often a number was given.
+    pub fn refused(&self, number: u8) -> u64 {
+        self.refusals.get(&number).copied().unwrap_or(0)
+    }
+
+    fn count_refusal<Reply>(&mut self, answer: &Result<Reply, u8>) {
+        if let Err(number) = answer {
+            *self.refusals.entry(*number).or_default() += 1;
+        }
+    }
+}
+
+/// Runs all lists of a profile.
+fn run(profile: &Profile) -> Tally {
+    let mut tally = Tally::default();
+    for list in 0..profile.lists {
+        let mut generator = Generator::new(1_000 * profile.seed + list);
+        let mut scene = Scene {
+            book: Book::fresh(),
+            store: generator.bytes(32_768),
+            window: generator.bytes(profile.window_length),
+            destination: vec![],
+        };
+        let mut model = Model::fresh(&scene.store, &scene.window);
+        for _ in 0..profile.calls {
+            one_call(profile, &mut generator, &mut scene, &mut model, &mut tally);
+        }
+    }
+    tally
+}
+
+/// Makes one call, after the host has perhaps written to the window, and
+/// checks all that it left.
+pub fn one_call(
+    profile: &Profile,
+    generator: &mut Generator,
+    scene: &mut Scene,
+    model: &mut Model,
+    tally: &mut Tally,
+) {
+    if !scene.window.is_empty() && generator.one_in(2) {
+        for _ in 0..generator.below(40) {
+            let place = generator.below(scene.window.len() as u64) as usize;
+            scene.window[place] ^= 0x5b;
+            model.window[place] ^= 0x5b;
+        }
+    }
+    let before = scene.book.clone();
+    let command = if generator.one_in(100) {
+        generator.between(8, 300)
+    } else {
+        generator.below(profile.commands)
+    };
+    if generator.one_in(profile.ends) {
+        let expected = model.end(command);
+        tally.count_refusal(&expected);
+        assert_eq!(scene.end(command), expected);
+    } else {
+        match generator.below(20) {
+            0 => {
+                let expected = model.begin(command);
+                tally.count_refusal(&expected);
+                assert_eq!(scene.begin(command), expected);
+            }
+            1 => {
+                let (address, data) = chosen_write(profile, generator);
+                let expected = model.host_write(address, &data);
+                tally.count_refusal(&expected);
+                assert_eq!(scene.host_write(address, &data), expected);
+            }
+            2 => {
+                let (address, data) = chosen_write(profile, generator);
+                let expected = model.own_write(command, address, &data);
+                tally.count_refusal(&expected);
+                assert_eq!(scene.own_write(command, address, &data), expected);
+            }
+            3 => {
+                let index = generator.below(70);
+                let expected = model.show(command, index);
+                tally.count_refusal(&expected);
+                assert_eq!(scene.show(command, index), expected);
+            }
+            _ => {
+                if command < 8 && !model.is_open(command) && !generator.one_in(8) {
+                    assert_eq!(scene.begin(command), model.begin(command));
+                }
+                one_fetch(profile, generator, command, scene, model, tally);
+            }
+        }
+    }
+    check_state(command, &before, scene, model);
+}
+
+/// Address and data of a write that lies about where the fetches do.
+fn chosen_write(profile: &Profile, generator: &mut Generator) -> (u64, Vec<u8>) {
+    let (address, length) = (profile.span)(generator, profile.window_length as u64);
+    (address, generator.bytes(length as usize))
+}
+
+/// Makes one fetch into a destination with some room behind the span.
+fn one_fetch(
+    profile: &Profile,
+    generator: &mut Generator,
+    command: u64,
+    scene: &mut Scene,
+    model: &mut Model,
+    tally: &mut Tally,
+) {
+    let (address, length) = (profile.span)(generator, profile.window_length as u64);
+    let room = length + generator.below(4);
+    scene.destination = vec![generator.below(256) as u8; room as usize];
+    let behind = scene.destination[length as usize..].to_vec();
+    let expected = model.fetch(command, address, length);
+    tally.count_refusal(&expected);
+    let answer = scene.fetch(command, address, length);
+    match expected {
+        Err(number) => assert_eq!(answer, Err(number)),
+        Ok(delivery) => {
+            assert_eq!(answer, Ok((delivery.fresh, delivery.replayed)));
+            assert_eq!(scene.destination, [delivery.bytes, behind].concat());
+            tally.accepted_fetches += 1;
+            tally.joins += u64::from(delivery.met > 1);
+            tally.mixed += u64::from(delivery.fresh > 0 && delivery.replayed > 0);
+            tally.empty += u64::from(length == 0);
+        }
+    }
+}
+
+/// Holds book, store and window against the model. Only the command of the
+/// call may have changed in the book.
+fn check_state(command: u64, before: &Book, scene: &Scene, model: &Model) {
+    assert!(scene.store == model.store, "the store differs");
+    assert!(scene.window == model.window, "the window differs");
+    let mut expected = before.clone();
+    if command < 8 {
+        expected.commands[command as usize] = if model.is_open(command) {
+            open_with(&model.records(command))
+        } else {
+            CommandBook::CLOSED
+        };
+    }
+    assert!(scene.book == expected, "the book differs");
+    assert!(scene.book.holds_together());
+}
+
+#[test]
+fn many_small_spans_up_to_the_last_record() {
+    let tally = run(&Profile {
+        seed: 1,
+        lists: 250,
+        calls: 160,
+        window_length: 1_000,
+        commands: 1,
+        ends: 200,
+        span: |generator, window| {
+            let longest = if generator.one_in(6) { 30 } else { 2 };
+            let length = generator.between(1, longest);
+            (generator.below(window - length), length)
+        },
+    });
+    assert!(tally.refused(24) > 2_500, "{tally:?}");
+    assert!(tally.joins > 500, "{tally:?}");
+}
+
+#[test]
+fn large_spans_up_to_the_last_held_byte() {
+    let tally = run(&Profile {
+        seed: 2,
+        lists: 250,
+        calls: 40,
+        window_length: 9_000,
+        commands: 2,
+        ends: 20,
+        span: |generator, window| {
+            let length = generator.between(500, 4_150);
+            (generator.below(window + 10 - length), length)
+        },
+    });
+    assert!(tally.refused(23) > 2_500, "{tally:?}");
+    assert!(tally.refused(4) > 100, "{tally:?}");
+    assert!(tally.mixed > 500, "{tally:?}");
+}
+
+#[test]
+fn overlapping_spans_in_a_narrow_place() {
+    let tally = run(&Profile {
+        seed: 3,
+        lists: 250,
+        calls: 90,
+        window_length: 700,
+        commands: 2,
+        ends: 100,
+        span: |generator, window| (generator.below(window - 40), generator.below(41)),
+    });
+    assert!(tally.joins > 1_000 && tally.mixed > 2_500, "{tally:?}");
+}
+
+#[test]
+fn touching_spans_and_some_across_the_borders() {
+    let tally = run(&Profile {
+        seed: 4,
+        lists: 250,
+        calls: 60,
+        window_length: 512,
+        commands: 1,
+        ends: 60,
+        span: |generator, _| {
+            let start = 8 * generator.below(60);
+            if generator.one_in(5) {
+                (start + 4, 8 * generator.between(1, 3))
+            } else {
+                (start, 8)
+            }
+        },
+    });
+    assert!(tally.joins > 250 && tally.mixed > 1_000, "{tally:?}");
+}
+
+#[test]
+fn nested_spans_in_and_around_each_other() {
+    let tally = run(&Profile {
+        seed: 5,
+        lists: 250,
+        calls: 30,
+        window_length: 4_300,
+        commands: 2,
+        ends: 15,
+        span: |generator, window| {
+            let length = window - generator.between(204, window);
+            ((window - length) / 2, length)
+        },
+    });
+    assert!(tally.mixed > 1_000, "{tally:?}");
+    assert_eq!(tally.joins, 0);
+}
+
+#[test]
+fn empty_spans_and_the_end_of_the_window() {
+    let tally = run(&Profile {
+        seed: 6,
+        lists: 250,
+        calls: 60,
+        window_length: 65_536,
+        commands: 2,
+        ends: 30,
+        span: |generator, window| (window - 6 + generator.below(8), generator.below(4)),
+    });
+    assert!(tally.refused(9) > 2_500, "{tally:?}");
+    assert!(tally.empty > 1_000, "{tally:?}");
+}
+
+#[test]
+fn all_eight_commands_with_many_ends_and_begins() {
+    let tally = run(&Profile {
+        seed: 7,
+        lists: 250,
+        calls: 120,
+        window_length: 2_000,
+        commands: 8,
+        ends: 8,
+        span: |generator, window| {
+            let length = generator.below(200);
+            (generator.below(window - 100), length)
+        },
+    });
+    for number in [6, 9, 21, 22, 25] {
+        assert!(tally.refused(number) > 100, "{tally:?}");
+    }
+}
+
+#[test]
+fn spans_of_all_sizes_over_the_whole_window() {
+    let tally = run(&Profile {
+        seed: 8,
+        lists: 250,
+        calls: 60,
+        window_length: 16_384,
+        commands: 8,
+        ends: 60,
+        span: |generator, window| {
+            let largest = [1, 4, 60, 700, 4_097][generator.below(5) as usize];
+            let length = generator.between(0, largest);
+            (generator.below(window + 3), length)
+        },
+    });
+    assert!(tally.accepted_fetches > 8_000, "{tally:?}");
+    assert!(tally.refused(9) > 100, "{tally:?}");
+}
