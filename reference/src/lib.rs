@@ -1,4 +1,4 @@
-//! A second opinion on the command fetch cache, written from paper 01 alone.
+//! A second opinion on the command fetch cache, written from document 01 alone.
 //!
 //! A fetch is worked out here through a map from address to held byte beside
 //! a list of spans, and only then packed back into the book and the store.

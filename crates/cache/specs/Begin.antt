@@ -1,4 +1,4 @@
--- Begin opens a closed command with no records and sets its store part to zero.
+-- 01's begin: the command is open and holds nothing, and its part of the store is zeroed.
 use Prim.Native.Nat.{ℕ}
 use mathlib.Core.List.{List, [], _∷_}
 use mathlib.Core.Bool.{cond}

@@ -1,5 +1,5 @@
--- End closes an open command, drops its records, zeroes its store part, and replies the number of records and of distinct
--- bytes it had.
+-- 01's end: the command is closed, its part of the store is zeroed, and the reply tells how many records and distinct bytes it
+-- held.
 use Prim.Native.Nat.{ℕ}
 use mathlib.Core.List.{List, [], _∷_}
 use mathlib.Core.Bool.{cond}

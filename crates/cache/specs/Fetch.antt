@@ -1,5 +1,5 @@
--- Fetch delivers a span into the front of a lent destination, and holds its bytes. The answer and the state depend on the
--- lengths of the buffers and on no byte in them.
+-- 01's fetch: the span goes to the destination, and its bytes are held. The answer and the state depend on the lengths of the
+-- buffers and on no byte in them.
 use Prim.Native.Nat.{ℕ, _-_}
 use mathlib.Core.List.{List, [], _∷_, map}
 use mathlib.Core.Bool.{cond}
@@ -19,7 +19,7 @@ module _ (s : CacheState) (storeLen windowLen destLen c a n : ℕ) where
       lengthTooLong n ∷ commandTooHigh c ∷ windowTooLong windowLen ∷ storeWrongSize storeLen ∷ outsideWindow windowLen a n
       ∷ bufferTooShort destLen n ∷ stateBroken s ∷ commandNotOpen s c ∷ tooManyBytes (recordsOf s c) a n ∷ tooManyRecords (recordsOf s c) a n ∷ []
 
-  -- the reply gives two counts: fresh, and replayed, the others
+  -- the reply: fresh, and replayed
   unfoldable pub fetchSays : Reply
   fetchSays = let f = fresh (recordsOf s c) a n in verdict fetchChecks (replied (f ∷ (n - f) ∷ []))
 
@@ -27,15 +27,14 @@ module _ (s : CacheState) (storeLen windowLen destLen c a n : ℕ) where
   fetchState = cond (accepted fetchSays) (withCommand s c (open-with (joined (recordsOf s c) a n))) s
 
 module _ (s : CacheState) (store window dest : List ℕ) (c a n : ℕ) where
-  -- The bytes of the joined records, as the command sees them, stand packed at the front of its part. Places of the part from
-  -- the new held count on do not change.
+  -- the bytes of the joined records, as the command sees them, go to the front of its part; the places behind them stay
   unfoldable pub fetchStore : List ℕ
   fetchStore =
       let rs = recordsOf s c in
       cond (accepted (fetchSays s (length store) (length window) (length dest) c a n))
       (overwrite store (partOf c) (map (sees rs c store window) (addresses (joined rs a n)))) store
 
-  -- the span goes to the front of the destination, which past the span does not change
+  -- the bytes of the span, as the command sees them, go to the front of the destination; the places behind them stay
   unfoldable pub fetchDest : List ℕ
   fetchDest =
       cond (accepted (fetchSays s (length store) (length window) (length dest) c a n))

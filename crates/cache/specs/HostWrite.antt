@@ -1,4 +1,4 @@
--- Host write copies given bytes into the window and replies their number. State and store are not lent to it.
+-- 01's host write: bytes go into the window, and the reply is their number. It takes neither state nor store.
 use Prim.Native.Nat.{ℕ}
 use mathlib.Core.List.{List, [], _∷_}
 use mathlib.Core.Bool.{cond}

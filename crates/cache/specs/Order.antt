@@ -1,4 +1,4 @@
--- "The lowest number that applies is given, and none if none applies", with 01's list of which can apply to each call.
+-- 01's rule on which refusal is given, and its list of those that can apply to each call.
 use Prim.Native.Nat.{ℕ, _-_}
 use mathlib.Core.Path.{_≡_}
 use mathlib.Core.List.{List, [], _∷_, map}
@@ -23,7 +23,7 @@ module _ (s : CacheState) (storeLen windowLen destLen c a n i : ℕ) where
       beginChecks s storeLen c ∷ endChecks s storeLen c ∷ fetchChecks s storeLen windowLen destLen c a n
       ∷ hostChecks windowLen a n ∷ ownChecks s windowLen c a n ∷ showChecks s c i ∷ []
 
-  -- "Which can apply"
+  -- the numbers of each, as 01 lists them
   abbrev pub CanApply : Type 0
   CanApply =
       map numbers allChecks

@@ -1,4 +1,4 @@
--- Own write does the same as host write for an open command. Records and store do not change.
+-- 01's own write: a host write made by an open command. It takes no store, and the state only to look at it.
 use Prim.Native.Nat.{ℕ}
 use mathlib.Core.List.{List, [], _∷_}
 use mathlib.Core.Bool.{cond}

@@ -1,4 +1,4 @@
--- Show gives record i of an open command, counted from 0: its start and length. It changes nothing.
+-- 01's show: start and length of an open command's record, counted from 0. It changes nothing.
 use Prim.Native.Nat.{ℕ}
 use mathlib.Core.List.{List, [], _∷_}
 use lib.ListN.{getD}

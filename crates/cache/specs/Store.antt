@@ -8,7 +8,7 @@ use Rattle.state.specs.declared.Record.{Record}
 use Rattle.state.specs.Limits.{heldLimit}
 use Rattle.state.specs.Records.{held, place}
 
--- Command c owns bytes 4,096 × c to 4,096 × c + 4,095. Nothing else knows where a part begins.
+-- where command c's part begins; each part has room for all that a command may hold, and nothing else says where a part stands
 abbrev pub partOf : ℕ → ℕ
 partOf c = heldLimit * c
 
@@ -16,7 +16,7 @@ partOf c = heldLimit * c
 abbrev pub zeroed : List ℕ → ℕ → List ℕ
 zeroed store c = overwrite store (partOf c) (replicate heldLimit 0)
 
--- A byte inside a record is replayed from the store, where the held bytes stand at the front of the part, packed, by ascending
--- address; any other is read from the window.
+-- A byte as command c sees it. A held one comes from the store, where the bytes of the records stand side by side at the front of
+-- the part in the order of their addresses; any other comes from the window.
 abbrev pub sees : List Record → ℕ → List ℕ → List ℕ → ℕ → ℕ
 sees rs c store window x = cond (held rs x) (getD store (partOf c + place rs x) 0) (getD window x 0)

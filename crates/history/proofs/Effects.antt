@@ -20,7 +20,7 @@ use Rattle.cache.specs.Fetch.{fetchState, fetchStore}
 use Rattle.cache.specs.End.{endState, endStore}
 use Rattle.cache.proofs.Accepted.{Ready, begun, ended, Fetched, fetched}
 use Rattle.history.specs.Runs.{Call, begin, fetch, end, hostWrite, ownWrite, show, Machine, says, storeAfter, after}
-use Rattle.history.specs.Claims.{names}
+use Rattle.history.specs.Claims.{mayChange}
 use Rattle.history.proofs.Replaced.{replaced, Fits, length-replaced}
 
 pub refused-same : (m : Machine) (p : Call) → accepted (says m p) ≡ false → after m p ≡ m
@@ -105,7 +105,7 @@ module _ (m : Machine) (c a n : ℕ) (dest window : List ℕ) (F : Fetched (m .s
 
 pub data Effect (m : Machine) (p : Call) : Type 0 where
   nothing : after m p ≡ m → Effect m p
-  replaces : (c : ℕ) (next : CommandState) (bytes : List ℕ) → names p c ≡ true → Fits m c next bytes → after m p ≡ replaced m c next bytes → Effect m p
+  replaces : (c : ℕ) (next : CommandState) (bytes : List ℕ) → mayChange p c ≡ true → Fits m c next bytes → after m p ≡ replaced m c next bytes → Effect m p
 
 pub effect : (m : Machine) (p : Call) → Effect m p
 effect m p = go p (accepted (says m p)) refl

@@ -6,12 +6,12 @@ use mathlib.Core.Bool.{true, false, false≢true}
 use Rattle.state.specs.State.{commandOf}
 use Rattle.state.proofs.Commands.{command-other}
 use Rattle.history.specs.Runs.{Call, Machine}
-use Rattle.history.specs.Claims.{names, partIn, Alone, Isolation}
+use Rattle.history.specs.Claims.{mayChange, partIn, Alone, Isolation}
 use Rattle.history.proofs.Replaced.{part-other}
 use Rattle.history.proofs.Effects.{Effect, nothing, replaces, effect}
 
-apart : (p : Call) (c d : ℕ) → names p c ≡ true → names p d ≡ false → d ≢ c
-apart p c d h k e = false≢true (sym k ∙ ap (names p) e ∙ h)
+apart : (p : Call) (c d : ℕ) → mayChange p c ≡ true → mayChange p d ≡ false → d ≢ c
+apart p c d h k e = false≢true (sym k ∙ ap (mayChange p) e ∙ h)
 
 pub isolation : Isolation
 isolation m p d k = go (effect m p)

@@ -44,6 +44,11 @@ checked-is-used : along delivers (start store) (retire 4 40) ≡ along delivers 
 unfolding retire common
 checked-is-used = equal-runs store (retire 4 40) (retire 4 4) refl .exactly .1 same-firsts .1
 
+-- and these are the bytes: the count is 4 when it is used, as it was when it was checked
+delivered-bytes : along delivers (start store) (retire 4 40) ≡ [] ∷ (4 ∷ []) ∷ [] ∷ (4 ∷ 11 ∷ 12 ∷ 13 ∷ []) ∷ []
+unfolding same-firsts store fetchDest
+delivered-bytes = refl
+
 -- A count of 5 at the first fetch is another first fetch, so what is delivered differs.
 other-firsts : told firsts [] (journal store (retire 4 40)) ≢ told firsts [] (journal store (retire 5 40))
 unfolding store retire told along beginSays beginState beginStore fetchSays fetchState fetchStore hostSays verdict accepted all ascending commandHolds holds total held span countFresh keep lowest highest joined addresses place remember memory firstsAmong firstsBy

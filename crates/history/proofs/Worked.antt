@@ -18,7 +18,7 @@ use Rattle.history.specs.Runs.{Call, begin, fetch, end, hostWrite, start
 use Rattle.history.specs.Journal.{Event, journal, told, deed}
 use Rattle.history.specs.Firsts.{remember, memory, First, firstsAmong, firstsBy, firsts, owedBy, owed}
 use Rattle.history.specs.Counts.{countsReplied, countsBy, countsOwed, bytesReplied, add, freshSince, sumOwed}
-use Rattle.history.specs.Claims.{begins, names, common}
+use Rattle.history.specs.Claims.{begins, mayChange, common}
 
 abbrev dest : List ℕ
 dest = 0 ∷ 0 ∷ 0 ∷ []
@@ -73,8 +73,8 @@ unfolding run
 begins-anew = refl
 
 -- a fetch names its command
-names-its-own : names (fetch 1 0 1 dest []) 1 ≡ true
-names-its-own = refl
+changes-its-own : mayChange (fetch 1 0 1 dest []) 1 ≡ true
+changes-its-own = refl
 
 -- two lists that differ in a window's length, in a destination, or in the length of a host write have not all in common
 other-window : common (fetch 1 0 1 dest (7 ∷ [])) ≢ common (fetch 1 0 1 dest (7 ∷ 8 ∷ []))

@@ -62,8 +62,8 @@ SameValueRule =
     (store : List ℕ) (before : List Call) (c a n : ℕ) (dest window : List ℕ) (between : List Call) (a′ n′ : ℕ) (dest′ window′ : List ℕ)
     → SameValue store before c a n dest window between a′ n′ dest′ window′
 
--- Demand 3, the equal-runs rule. What two runs of one list have in common: the same calls at the same places, and everything
--- given but the bytes of windows and of host writes, whose lengths agree.
+-- Demand 3, the equal-runs rule. What two runs have in common is all that is given but the bytes of windows and of host writes;
+-- of these it is the length.
 abbrev pub blank : List ℕ → List ℕ
 blank bytes = replicate (length bytes) 0
 
@@ -98,14 +98,15 @@ AlwaysHolds =
 abbrev pub NeverBroken : Type 0
 NeverBroken = (store : List ℕ) (ps : List Call) (p : Call) → says (ran (start store) ps) p ≢ refused 20
 
--- "No call changes another command's records or store part", whatever state and store it is given.
-abbrev pub names : Call → ℕ → Bool
-names (begin c) d = eqb c d
-names (fetch c a n dest window) d = eqb c d
-names (end c) d = eqb c d
-names (hostWrite a bytes window) d = false
-names (ownWrite c a bytes window) d = eqb c d
-names (show c i) d = eqb c d
+-- 01's rule that a call leaves the other commands alone, whatever state and store it is given. A begin, a fetch and an end may
+-- change the command that they name; writes and show change none.
+abbrev pub mayChange : Call → ℕ → Bool
+mayChange (begin c) d = eqb c d
+mayChange (fetch c a n dest window) d = eqb c d
+mayChange (end c) d = eqb c d
+mayChange (hostWrite a bytes window) d = false
+mayChange (ownWrite c a bytes window) d = false
+mayChange (show c i) d = false
 
 abbrev pub partIn : Machine → ℕ → List ℕ
 partIn m c = part (m .store) (partOf c) heldLimit
@@ -115,7 +116,7 @@ pub record Alone (m : Machine) (p : Call) (d : ℕ) : Type 0 where
   pub bytes : partIn (after m p) d ≡ partIn m d
 
 abbrev pub Isolation : Type 0
-Isolation = (m : Machine) (p : Call) (d : ℕ) → names p d ≡ false → Alone m p d
+Isolation = (m : Machine) (p : Call) (d : ℕ) → mayChange p d ≡ false → Alone m p d
 
 -- what a call leaves as it was given
 pub record Unchanged (m : Machine) (p : Call) : Type 0 where
@@ -123,11 +124,11 @@ pub record Unchanged (m : Machine) (p : Call) : Type 0 where
   pub dest : destAfter m p ≡ destGiven p
   pub window : windowAfter m p ≡ windowGiven p
 
--- "A refusal returns its number only; book, store, window, destination and output are unchanged."
+-- 01's rule on refusals: whatever was lent is as it was given.
 abbrev pub RefusedUnchanged : Type 0
 RefusedUnchanged = (m : Machine) (p : Call) → accepted (says m p) ≡ false → Unchanged m p
 
--- "Length 0 changes nothing and replies 0 and 0", for every state of the shape that the code's types give.
+-- 01's rule on length 0, for every state of the shape that the code's types give.
 pub record Empty (m : Machine) (c a : ℕ) (dest window : List ℕ) : Type 0 where
   pub unchanged : Unchanged m (fetch c a 0 dest window)
   pub reply : accepted (says m (fetch c a 0 dest window)) ≡ true → says m (fetch c a 0 dest window) ≡ replied (0 ∷ 0 ∷ [])

@@ -53,8 +53,8 @@ firstsBy mem (fetched c a n window) = firstsAmong (mem c) window (span a n)
 firstsBy mem (ended c) = []
 firstsBy mem other = []
 
--- The first fetches at an event: it is an accepted fetch by c, its span has the address, and no accepted fetch by c between c's
--- last accepted begin and it has the address in its span.
+-- 01's first fetches at an event: those addresses of an accepted fetch's span that the command has not fetched since its last
+-- accepted begin.
 abbrev pub firsts : List Event → Event → List First
 firsts past e = firstsBy (memory past) (deed e)
 
@@ -68,7 +68,7 @@ owedBy mem (fetched c a n window) = map (λ x. recall (orElse (mem c x) (getD wi
 owedBy mem (ended c) = []
 owedBy mem other = []
 
--- What the delivery rule asks of an accepted fetch: each byte as it stood at the command's first accepted fetch of it since its
--- begin, which may be this one.
+-- What the delivery rule asks of an accepted fetch: at each address of its span the value of the command's first fetch there,
+-- which may be this one.
 abbrev pub owed : List Event → Event → List ℕ
 owed past e = owedBy (memory past) (deed e)

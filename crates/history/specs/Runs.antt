@@ -13,8 +13,8 @@ use Rattle.cache.specs.HostWrite.{hostSays, hostWindow}
 use Rattle.cache.specs.OwnWrite.{ownSays, ownWindow}
 use Rattle.cache.specs.Show.{showSays}
 
--- A place in the list: one of the six calls with what it is given, its numbers, a fetch's destination, a write's bytes, and the
--- window where it takes one. The window is free: it need not be what the place before left there.
+-- 01's place in a list: a call with all that it is given. Its window is an argument like the others, so that it may hold anything,
+-- what an earlier call left in it or not.
 pub data Call : Type 0 where
   begin : (c : ℕ) → Call
   fetch : (c a n : ℕ) (dest window : List ℕ) → Call
@@ -23,12 +23,12 @@ pub data Call : Type 0 where
   ownWrite : (c a : ℕ) (bytes window : List ℕ) → Call
   show : (c i : ℕ) → Call
 
--- what each place gets from the one before it: the state and the store
+-- what is handed on from call to call
 pub record Machine : Type 0 where
   pub state : CacheState
   pub store : List ℕ
 
--- the first place gets the fresh state and a store of any bytes and any length
+-- what the first call gets: the fresh state, and a store of which nothing is asked
 abbrev pub start : List ℕ → Machine
 start store = record { state = freshState; store = store }
 
@@ -41,7 +41,7 @@ says m (hostWrite a bytes window) = hostSays (length window) a (length bytes)
 says m (ownWrite c a bytes window) = ownSays (m .state) (length window) c a (length bytes)
 says m (show c i) = showSays (m .state) c i
 
--- What a call does not take is passed on as it stands.
+-- what a call leaves; a write and a show hand on what they got
 abbrev pub stateAfter : Machine → Call → CacheState
 stateAfter m (begin c) = beginState (m .state) (length (m .store)) c
 stateAfter m (fetch c a n dest window) = fetchState (m .state) (length (m .store)) (length window) (length dest) c a n
@@ -103,7 +103,7 @@ wanted (hostWrite a bytes window) = 0
 wanted (ownWrite c a bytes window) = 0
 wanted (show c i) = 0
 
--- Delivered are the first n bytes of the destination after an accepted fetch of length n.
+-- 01's delivered bytes: the front of the destination after an accepted fetch, as much of it as was asked for
 abbrev pub delivers : Machine → Call → List ℕ
 delivers m p = cond (accepted (says m p)) (take (wanted p) (destAfter m p)) []
 

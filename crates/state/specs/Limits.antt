@@ -1,28 +1,28 @@
--- The limits of the device (01, "Bounds of the device").
+-- The limits (01, "Bounds of the device"), in its order.
 use Prim.Native.Nat.{ℕ}
 use Rattle.state.specs.declared.Limits.{Limits}
 
--- 8 commands
+-- how many commands there are
 abbrev pub commandLimit : ℕ
 commandLimit = 8
 
--- 64 records per command
+-- how many records a command may have
 abbrev pub recordLimit : ℕ
 recordLimit = 64
 
--- 4,096 distinct held bytes per command
+-- how many distinct bytes a command may hold
 abbrev pub heldLimit : ℕ
 heldLimit = 4096
 
--- 4,096 bytes per fetch or write
+-- how many bytes one fetch or write may have
 abbrev pub transferLimit : ℕ
 transferLimit = 4096
 
--- a window of at most 65,536 bytes; also the number of addresses, since none is above 65,535
+-- how long a window may be, and so how many addresses there are
 abbrev pub windowLimit : ℕ
 windowLimit = 65536
 
--- a store of exactly 32,768 bytes
+-- how long a store must be
 abbrev pub storeSize : ℕ
 storeSize = 32768
 

@@ -44,7 +44,7 @@ unfoldable pub countFresh : List Record → List ℕ → ℕ
 countFresh rs [] = 0
 countFresh rs (x ∷ xs) = cond (held rs x) (countFresh rs xs) (suc (countFresh rs xs))
 
--- 01's fresh: the addresses of the span that were in no record
+-- 01's fresh count of a span
 abbrev pub fresh : List Record → ℕ → ℕ → ℕ
 fresh rs a n = countFresh rs (span a n)
 
@@ -52,7 +52,7 @@ unfoldable pub keep : (Record → Bool) → List Record → List Record
 keep p [] = []
 keep p (r ∷ rs) = cond (p r) (r ∷ keep p rs) (keep p rs)
 
--- does the record share a byte with the span? (One that only touches it does not.)
+-- 01's sharing of a byte between a record and the span; a record that only touches the span shares none
 abbrev pub shares : ℕ → ℕ → Record → Bool
 shares a n r = ltb (r .start) (a + n) && ltb a (past r)
 
@@ -76,8 +76,8 @@ highest e (r ∷ rs) = max (past r) (highest e rs)
 abbrev pub union : ℕ → ℕ → List Record → Record
 union a n met = record { start = lowest a met; len = highest (a + n) met - lowest a met }
 
--- The records after the span is held: if its length is 1 or more, every record that shares a byte with it is replaced,
--- together with the span, by one record over their union.
+-- 01's joining rule, the records after the span is held: the union takes the place of the records that it covers, and a span of
+-- length 0 joins nothing.
 unfoldable pub joined : List Record → ℕ → ℕ → List Record
 joined rs a zero = rs
 joined rs a (suc n) = earlier a rs ++ union a (suc n) (keep (shares a (suc n)) rs) ∷ later (a + suc n) rs

@@ -11,11 +11,11 @@ use Rattle.state.specs.declared.CacheState.{CacheState}
 use Rattle.state.specs.Limits.{commandLimit, recordLimit, heldLimit, windowLimit}
 use Rattle.state.specs.Records.{past, total}
 
--- an unused record entry is zero
+-- what stands in an entry that is not used
 abbrev pub noRecord : Record
 noRecord = record { start = 0; len = 0 }
 
--- a closed command has no records
+-- a command that is not open
 abbrev pub closed : CommandState
 closed = record { opened = false; count = 0; records = replicate recordLimit noRecord }
 
@@ -23,7 +23,7 @@ closed = record { opened = false; count = 0; records = replicate recordLimit noR
 abbrev pub open-with : List Record → CommandState
 open-with rs = record { opened = true; count = length rs; records = rs ++ replicate (recordLimit - length rs) noRecord }
 
--- the fresh book has all commands closed
+-- 01's fresh book
 abbrev pub freshState : CacheState
 freshState = record { commands = replicate commandLimit closed }
 
@@ -42,7 +42,8 @@ isOpen s c = commandOf s c .opened
 abbrev pub withCommand : CacheState → ℕ → CommandState → CacheState
 withCommand s c next = record { commands = set (s .commands) c next }
 
--- in ascending order from lo on, each of length 1 or more, no two sharing a byte, none reaching past address 65,535
+-- 01's rules for a list of records: each starts at or behind the end of the one before it (lo for the first), is not empty, and
+-- ends at or before address 65,536
 unfoldable pub ascending : ℕ → List Record → Bool
 ascending lo [] = true
 ascending lo (r ∷ rs) = leb lo (r .start) && ltb 0 (r .len) && leb (past r) windowLimit && ascending (past r) rs
@@ -50,13 +51,14 @@ ascending lo (r ∷ rs) = leb lo (r .start) && ltb 0 (r .len) && leb (past r) wi
 abbrev pub isZero : Record → Bool
 isZero r = eqb (r .start) 0 && eqb (r .len) 0
 
--- a command's records are at most 64, in order, together at most 4,096 bytes; unused entries are zero; a closed command has none
+-- 01's rules for one command: the number of its records, the rules above, their total, the unused entries, and no records where
+-- it is closed
 unfoldable pub commandHolds : CommandState → Bool
 commandHolds c =
     leb (c .count) recordLimit && ascending 0 (recordsIn c) && leb (total (recordsIn c)) heldLimit
     && all isZero (drop (c .count) (c .records)) && (c .opened || eqb (c .count) 0)
 
--- the book holds together (otherwise 20)
+-- 01's book that holds together: every command does
 unfoldable pub holds : CacheState → Bool
 holds s = all commandHolds (s .commands)
 

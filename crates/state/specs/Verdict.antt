@@ -44,7 +44,7 @@ abbrev pub minimum : ℕ → List ℕ → ℕ
 minimum k [] = k
 minimum k (n ∷ ns) = min n (minimum k ns)
 
--- "The lowest number that applies is given, and none if none applies": what a verdict is where its checks' numbers ascend
+-- 01's rule on which number is given: the lowest of those that apply, and the reply where there is none
 unfoldable pub lowestOr : List ℕ → Reply → Reply
 lowestOr [] reply = reply
 lowestOr (k ∷ ks) reply = refused (minimum k ks)
