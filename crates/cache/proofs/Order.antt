@@ -1,6 +1,6 @@
 -- Each call gives the lowest number that applies.
 use Prim.Native.Nat.{ℕ}
-use mathlib.Core.Path.{_≡_, refl}
+use mathlib.Core.Path.{refl}
 use Rattle.octets.specs.Lists.{all}
 use Rattle.state.specs.declared.CacheState.{CacheState}
 use Rattle.state.specs.Verdict.{ascendFrom}

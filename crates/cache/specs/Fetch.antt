@@ -10,7 +10,7 @@ use Rattle.state.specs.Records.{span, addresses, fresh, joined}
 use Rattle.state.specs.State.{recordsOf, open-with, withCommand}
 use Rattle.state.specs.Verdict.{Reply, replied, accepted, Check, verdict}
 use Rattle.state.specs.Checks.{lengthTooLong, commandTooHigh, windowTooLong, storeWrongSize, outsideWindow, bufferTooShort, stateBroken, commandNotOpen, tooManyBytes, tooManyRecords}
-use Rattle.cache.specs.Store.{partOf, sees}
+use Rattle.cache.specs.Store.{partStart, sees}
 
 module _ (s : CacheState) (storeLen windowLen destLen c a n : ℕ) where
   -- 4, 6 to 10, 20, 21, 23, 24
@@ -32,7 +32,7 @@ module _ (s : CacheState) (store window dest : List ℕ) (c a n : ℕ) where
   fetchStore =
       let rs = recordsOf s c in
       cond (accepted (fetchSays s (length store) (length window) (length dest) c a n))
-      (overwrite store (partOf c) (map (sees rs c store window) (addresses (joined rs a n)))) store
+      (overwrite store (partStart c) (map (sees rs c store window) (addresses (joined rs a n)))) store
 
   -- the bytes of the span, as the command sees them, go to the front of the destination; the places behind them stay
   unfoldable pub fetchDest : List ℕ

@@ -1,27 +1,26 @@
 -- How the counts tie to the first fetches, and end's byte number to the counts, over every list of calls.
-use Prim.Native.Nat.{ℕ, zero, suc, _+_, _-_, _<_}
+use Prim.Native.Nat.{ℕ, suc}
 use native.Mathlib.Omega.{arith}
 use mathlib.Core.Path.{_≡_, refl, ap, ap₂, subst, sym, _∙_}
 use mathlib.Core.Logic.{_≢_}
 use mathlib.Core.List.{List, [], _∷_}
-use mathlib.Core.Bool.{Bool, true, false, false≢true, cond}
+use mathlib.Core.Bool.{Bool, true, false, false≢true}
 use lib.Dec.{eqb}
-use lib.ListN.{length, getD, drop}
+use lib.ListN.{length}
 use borrow.Author.Tests.{eqb-true, eqb-false, eq-eqb, ne-eqb}
 use Rattle.octets.proofs.Lists.{getD-same}
 use Rattle.state.specs.declared.Record.{Record}
 use Rattle.state.specs.declared.CommandState.{CommandState}
 use Rattle.state.specs.Limits.{commandLimit}
-use Rattle.state.specs.Records.{held, place, span, total, countFresh, fresh}
+use Rattle.state.specs.Records.{held, span, total, countFresh}
 use Rattle.state.specs.State.{commandOf, recordsIn, withCommand, open-with, closed}
-use Rattle.state.specs.Verdict.{Reply, accepted}
+use Rattle.state.specs.Verdict.{accepted}
 use Rattle.state.proofs.Laws.{total-joined}
 use Rattle.state.proofs.Commands.{command-same, command-other, records-open-with, kept, eight}
-use Rattle.cache.specs.Store.{partOf}
 use Rattle.cache.proofs.Accepted.{ended-open, ended-reply, fetched, fetched-reply}
 use Rattle.history.specs.Runs.{Call, begin, fetch, end, hostWrite, ownWrite, show, Machine, start, says, after, along}
-use Rattle.history.specs.Journal.{Event, event, told, deedOf, numbersOf}
-use Rattle.history.specs.Firsts.{Value, none, first, Memory, remember, memory, firstsAmong}
+use Rattle.history.specs.Journal.{Event, event, told, deedOf}
+use Rattle.history.specs.Firsts.{Value, Memory, memory, firstsAmong}
 use Rattle.history.specs.Counts.{countsIn, countsReplied, countsBy, countsOwed, bytesIn, bytesReplied, add, freshSince, sumBy, sumOwed}
 use Rattle.history.specs.Claims.{CountsTie, EndSum}
 use Rattle.history.proofs.Replaced.{replaced, Fits}

@@ -8,7 +8,7 @@ use Rattle.octets.proofs.Overwrite.{overwrite-front}
 use Rattle.state.specs.Records.{held, place, span}
 use Rattle.state.specs.Verdict.{accepted}
 use Rattle.state.proofs.Places.{length-span}
-use Rattle.cache.specs.Store.{partOf, sees}
+use Rattle.cache.specs.Store.{partStart, sees}
 use Rattle.cache.specs.Fetch.{fetchDest}
 use Rattle.cache.proofs.Accepted.{fetched}
 use Rattle.history.specs.Runs.{Call, begin, fetch, end, hostWrite, ownWrite, show, Machine, start, along, says, after, destAfter, delivers}
@@ -40,7 +40,7 @@ delivers-owed m mem (fetch c a n dest window) true e S =
     rw e
     (dest-front m c a n dest window e
     ∙ ap (λ (f : ℕ → ℕ). map f (span a n))
-    (fun-ext λ x. rw (S .known c x (F .opened)) (seen (held (old m c) x) (getD (m .store) (partOf c + place (old m c) x) 0) (getD window x 0))))
+    (fun-ext λ x. rw (S .known c x (F .opened)) (seen (held (old m c) x) (getD (m .store) (partStart c + place (old m c) x) 0) (getD window x 0))))
 delivers-owed m mem (begin c) true e S = rw e
 delivers-owed m mem (end c) true e S = rw e
 delivers-owed m mem (hostWrite a bytes window) true e S = rw e

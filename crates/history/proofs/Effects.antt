@@ -10,7 +10,7 @@ use Rattle.state.specs.declared.Record.{Record}
 use Rattle.state.specs.declared.CommandState.{CommandState}
 use Rattle.state.specs.Limits.{heldLimit, recordLimit}
 use Rattle.state.specs.Records.{total, addresses, joined}
-use Rattle.state.specs.State.{recordsOf, commandOf, open-with, closed, ascending, commandHolds}
+use Rattle.state.specs.State.{recordsOf, open-with, closed, ascending, commandHolds}
 use Rattle.state.specs.Verdict.{accepted}
 use Rattle.state.proofs.Laws.{ascending-joined, total-joined, length-addresses}
 use Rattle.state.proofs.Commands.{closed-holds, open-with-holds, length-open-with, kept}

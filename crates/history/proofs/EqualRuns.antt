@@ -10,11 +10,11 @@ use Rattle.state.specs.Records.{inSpan, held, span}
 use Rattle.state.specs.State.{isOpen}
 use Rattle.state.specs.Verdict.{accepted}
 use Rattle.state.proofs.Laws.{held-joined, map-held}
-use Rattle.cache.specs.Store.{partOf, sees}
+use Rattle.cache.specs.Store.{partStart, sees}
 use Rattle.cache.proofs.Accepted.{fetched}
-use Rattle.history.specs.Runs.{Call, fetch, Machine, start, along, says, stateAfter, storeAfter, after, delivers}
-use Rattle.history.specs.Journal.{Deed, deedOf, journal, told}
-use Rattle.history.specs.Firsts.{none, Memory, remember, memory, firstsBy, firsts, recall, owedBy, owed}
+use Rattle.history.specs.Runs.{Call, fetch, Machine, start, along, says, stateAfter, storeAfter, after}
+use Rattle.history.specs.Journal.{Deed, deedOf}
+use Rattle.history.specs.Firsts.{none, Memory, remember, memory, firstsBy, recall, owedBy}
 use Rattle.history.specs.Claims.{EqualRunsRule}
 use Rattle.history.proofs.Effects.{refused-same, old, grown, packed, fetch-after, length-after}
 use Rattle.history.proofs.Sound.{Sound, sound-start, sound-after}
@@ -103,7 +103,7 @@ stores-alike {m} mem true S (fetches {c} {a} {n} {dest} {w} {v} k) e f =
     let e′ = accepted-alike m (fetch c a n dest w) (fetch c a n dest v) (fetches k) e in
     let F = fetched (m .state) (length (m .store)) (length w) (length dest) c a n e in
     ap (λ (j : Machine). j .store) (fetch-after m c a n dest w e)
-    ∙ ap (overwrite (m .store) (partOf c)) (packed-equal m mem S c a n w v (F .opened) (firsts-values (mem c) w v (span a n) f))
+    ∙ ap (overwrite (m .store) (partStart c)) (packed-equal m mem S c a n w v (F .opened) (firsts-values (mem c) w v (span a n) f))
     ∙ sym (ap (λ (j : Machine). j .store) (fetch-after m c a n dest v e′))
 stores-alike mem true S ends e f = refl
 stores-alike mem true S (hostWrites b k) e f = refl

@@ -4,7 +4,6 @@ use mathlib.Core.Path.{_≡_, refl, subst, sym}
 use mathlib.Core.Logic.{_≢_}
 use mathlib.Core.List.{List, [], _∷_}
 use mathlib.Core.Bool.{true}
-use lib.ListN.{length}
 use Rattle.octets.specs.Lists.{all}
 use Rattle.state.specs.declared.CommandState.{CommandState}
 use Rattle.state.specs.declared.CacheState.{CacheState}

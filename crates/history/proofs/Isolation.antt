@@ -1,6 +1,6 @@
 -- No call changes another command's records or part of the store.
 use Prim.Native.Nat.{ℕ}
-use mathlib.Core.Path.{_≡_, ap, subst, sym, _∙_}
+use mathlib.Core.Path.{_≡_, ap, sym, _∙_}
 use mathlib.Core.Logic.{_≢_}
 use mathlib.Core.Bool.{true, false, false≢true}
 use Rattle.state.specs.State.{commandOf}
@@ -17,10 +17,10 @@ pub isolation : Isolation
 isolation m p d k = go (effect m p)
   where
     go : Effect m p → Alone m p d
-    go (nothing e) = record { records = ap (λ (j : Machine). commandOf (j .state) d) e; bytes = ap (λ (j : Machine). partIn j d) e }
+    go (nothing e) = record { command = ap (λ (j : Machine). commandOf (j .state) d) e; bytes = ap (λ (j : Machine). partIn j d) e }
     go (replaces c next bytes h F e) =
         let other = apart p c d h k in
         record {
-          records = ap (λ (j : Machine). commandOf (j .state) d) e ∙ command-other (m .state) c next d other;
+          command = ap (λ (j : Machine). commandOf (j .state) d) e ∙ command-other (m .state) c next d other;
           bytes = ap (λ (j : Machine). partIn j d) e ∙ part-other F d other;
         }

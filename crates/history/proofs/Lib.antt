@@ -4,10 +4,12 @@ pub mod Effects
 pub mod Isolation
 pub mod Invariant
 pub mod Unchanged
+pub mod Beyond
 pub mod Sound
 pub mod Memories
 pub mod Delivery
 pub mod SameValue
+pub mod Stored
 pub mod Counts
 pub mod Alike
 pub mod Values

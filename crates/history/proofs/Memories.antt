@@ -1,5 +1,4 @@
 -- What is told from a journal by way of the memory, as a walk along the calls that carries the memory with it.
-use Prim.Native.Nat.{ℕ}
 use mathlib.Core.Path.{_≡_, refl, ap}
 use mathlib.Core.List.{List, [], _∷_}
 use Rattle.state.specs.Verdict.{accepted}

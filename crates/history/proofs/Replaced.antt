@@ -13,12 +13,12 @@ use Rattle.octets.proofs.Overwrite.{length-overwrite, overwrite-below, overwrit
 use Rattle.state.specs.declared.CommandState.{CommandState}
 use Rattle.state.specs.Limits.{commandLimit, recordLimit, heldLimit, storeSize}
 use Rattle.state.specs.State.{withCommand, commandHolds, holds}
-use Rattle.cache.specs.Store.{partOf}
+use Rattle.cache.specs.Store.{partStart}
 use Rattle.history.specs.Runs.{Machine}
 use Rattle.history.specs.Claims.{partIn}
 
 abbrev pub replaced : Machine → ℕ → CommandState → List ℕ → Machine
-replaced m c next bytes = record { state = withCommand (m .state) c next; store = overwrite (m .store) (partOf c) bytes }
+replaced m c next bytes = record { state = withCommand (m .state) c next; store = overwrite (m .store) (partStart c) bytes }
 
 -- what every such call has seen to
 pub record Fits (m : Machine) (c : ℕ) (next : CommandState) (bytes : List ℕ) : Type 0 where
@@ -30,19 +30,19 @@ pub record Fits (m : Machine) (c : ℕ) (next : CommandState) (bytes : List ℕ)
   pub shaped : length (next .records) ≡ recordLimit
 
 module _ {m : Machine} {c : ℕ} {next : CommandState} {bytes : List ℕ} (F : Fits m c next bytes) where
-  inside : partOf c + length bytes ≤ length (m .store)
+  inside : partStart c + length bytes ≤ length (m .store)
   inside = omega arith
 
   pub length-replaced : length (replaced m c next bytes .store) ≡ length (m .store)
-  length-replaced = length-overwrite (m .store) bytes (partOf c) inside
+  length-replaced = length-overwrite (m .store) bytes (partStart c) inside
 
   -- the other commands' parts stay
-  pub byte-other : (d i : ℕ) → d ≢ c → i < heldLimit → getD (replaced m c next bytes .store) (partOf d + i) 0 ≡ getD (m .store) (partOf d + i) 0
+  pub byte-other : (d i : ℕ) → d ≢ c → i < heldLimit → getD (replaced m c next bytes .store) (partStart d + i) 0 ≡ getD (m .store) (partStart d + i) 0
   byte-other d i apart h = go (ltb d c) refl
     where
-      go : (b : Bool) → ltb d c ≡ b → getD (replaced m c next bytes .store) (partOf d + i) 0 ≡ getD (m .store) (partOf d + i) 0
-      go true e = overwrite-below (m .store) bytes (partOf c) inside (partOf d + i) 0 (omega (arith, ltb-true))
-      go false e = overwrite-above (m .store) bytes (partOf c) inside (partOf d + i) 0 (omega (arith, ltb-false))
+      go : (b : Bool) → ltb d c ≡ b → getD (replaced m c next bytes .store) (partStart d + i) 0 ≡ getD (m .store) (partStart d + i) 0
+      go true e = overwrite-below (m .store) bytes (partStart c) inside (partStart d + i) 0 (omega (arith, ltb-true))
+      go false e = overwrite-above (m .store) bytes (partStart c) inside (partStart d + i) 0 (omega (arith, ltb-false))
 
   pub part-other : (d : ℕ) → d ≢ c → partIn (replaced m c next bytes) d ≡ partIn m d
-  part-other d apart = part-beside (m .store) bytes (partOf c) inside (partOf d) heldLimit (λ i h. byte-other d i apart h)
+  part-other d apart = part-beside (m .store) bytes (partStart c) inside (partStart d) heldLimit (λ i h. byte-other d i apart h)

@@ -1,5 +1,5 @@
 -- Midas' invariant: until its next begin, a command gets one value at each address that it fetches.
-use Prim.Native.Nat.{ℕ, _+_, _-_, _≤_, _<_}
+use Prim.Native.Nat.{ℕ, _+_, _-_, _<_}
 use native.Mathlib.Omega.{arith}
 use mathlib.Core.Path.{_≡_, refl, ap, sym, _∙_}
 use mathlib.Core.List.{List, [], _∷_, map, append-nil}
@@ -12,22 +12,12 @@ use Rattle.octets.proofs.Lists.{and-left, and-right}
 use Rattle.state.specs.Records.{inSpan, span}
 use Rattle.state.specs.Verdict.{accepted}
 use Rattle.state.proofs.Places.{span-at}
-use Rattle.history.specs.Runs.{Call, fetch, Machine, start, says, after, along, ran, delivers}
-use Rattle.history.specs.Journal.{event, Deed, began, fetched, ended, other, deedOf, deed}
+use Rattle.history.specs.Runs.{fetch, Machine, start, says, after, along, ran, delivers}
+use Rattle.history.specs.Journal.{Event, event, journal, backwards, Deed, began, fetched, ended, other, deed}
 use Rattle.history.specs.Firsts.{Value, none, first, orElse, Memory, remember, memory, recall, owedBy}
 use Rattle.history.specs.Claims.{begins, SameValueRule}
-use Rattle.history.proofs.Sound.{Sound, sound-start, sound-after}
+use Rattle.history.proofs.Sound.{Sound, sound-start, sound-after, sound-ran}
 use Rattle.history.proofs.Delivery.{delivers-owed}
-
--- the memory after a whole list
-unfoldable rememberAll : Memory → Machine → List Call → Memory
-rememberAll mem m [] = mem
-rememberAll mem m (p ∷ ps) = rememberAll (remember mem (deedOf (accepted (says m p)) p)) (after m p) ps
-
-sound-ran : (mem : Memory) (m : Machine) (ps : List Call) → Sound m mem → Sound (ran m ps) (rememberAll mem m ps)
-unfolding ran rememberAll
-sound-ran mem m [] S = S
-sound-ran mem m (p ∷ ps) S = sound-ran (remember mem (deedOf (accepted (says m p)) p)) (after m p) ps (sound-after m mem p (accepted (says m p)) refl S)
 
 -- a value once fetched stays until the command begins anew
 stays : (mem : Memory) (d : Deed) (c x v : ℕ) → mem c x ≡ first v → begins c d ≡ false → remember mem d c x ≡ first v
@@ -42,15 +32,14 @@ stays mem (ended e) c x v known no′ = known
 stays mem other c x v known no′ = known
 
 stays-along :
-    (mem : Memory) (m : Machine) (ps : List Call) (c x v : ℕ) → mem c x ≡ first v → all (λ e. not (begins c (deed e))) (along event m ps) ≡ true
-    → rememberAll mem m ps c x ≡ first v
-unfolding rememberAll all along
-stays-along mem m [] c x v known h = known
-stays-along mem m (p ∷ ps) c x v known h =
-    let d = deedOf (accepted (says m p)) p in
-    let here = not-true (begins c d) (and-left (not (begins c d)) (all (λ e. not (begins c (deed e))) (along event (after m p) ps)) h) in
-    let rest = and-right (not (begins c d)) (all (λ e. not (begins c (deed e))) (along event (after m p) ps)) h in
-    stays-along (remember mem d) (after m p) ps c x v (stays mem d c x v known here) rest
+    (past : List Event) (es : List Event) (c x v : ℕ) → memory past c x ≡ first v → all (λ e. not (begins c (deed e))) es ≡ true
+    → memory (backwards past es) c x ≡ first v
+unfolding backwards memory all
+stays-along past [] c x v known h = known
+stays-along past (e ∷ es) c x v known h =
+    let here = not-true (begins c (deed e)) (and-left (not (begins c (deed e))) (all (λ f. not (begins c (deed f))) es) h) in
+    let rest = and-right (not (begins c (deed e))) (all (λ f. not (begins c (deed f))) es) h in
+    stays-along (e ∷ past) es c x v (stays (memory past) (deed e) c x v known here) rest
 
 -- the byte delivered for an address of the span
 delivered-at :
@@ -70,16 +59,17 @@ value-of none w = refl
 value-of (first u) w = refl
 
 pub same-value : SameValueRule
-unfolding remember
+unfolding remember memory
 same-value store before c a n dest window between a′ n′ dest′ window′ taken taken′ unbroken x near near′ =
-    let mem = rememberAll (memory []) (start store) before in
     let m = ran (start store) before in
-    let S = sound-ran (memory []) (start store) before (sound-start store) in
+    let past = backwards [] (journal store before) in
     let p = fetch c a n dest window in
-    let S′ = sound-after m mem p true taken S in
-    let then = rememberAll (remember mem (deedOf true p)) (after m p) between in
-    let v = recall (orElse (mem c x) (getD window x 0)) in
-    let learnt : remember mem (deedOf true p) c x ≡ first v = rw (eq-eqb c c refl, near) (value-of (mem c x) (getD window x 0)) in
-    let kept : then c x ≡ first v = stays-along (remember mem (deedOf true p)) (after m p) between c x v learnt unbroken in
-    let later = delivered-at (ran (after m p) between) then c a′ n′ dest′ window′ (sound-ran (remember mem (deedOf true p)) (after m p) between S′) taken′ x near′ in
-    delivered-at m mem c a n dest window S taken x near ∙ sym (later ∙ ap (λ (k : Value). recall (orElse k (getD window′ x 0))) kept)
+    let e = event m p in
+    let rest = along event (after m p) between in
+    let S = sound-ran [] (start store) before (sound-start store) in
+    let S′ = sound-ran (e ∷ past) (after m p) between (sound-after m (memory past) p (accepted (says m p)) refl S) in
+    let v = recall (orElse (memory past c x) (getD window x 0)) in
+    let learnt : memory (e ∷ past) c x ≡ first v = rw (taken, eq-eqb c c refl, near) (value-of (memory past c x) (getD window x 0)) in
+    let known = stays-along (e ∷ past) rest c x v learnt unbroken in
+    let other′ = delivered-at (ran (after m p) between) (memory (backwards (e ∷ past) rest)) c a′ n′ dest′ window′ S′ taken′ x near′ in
+    delivered-at m (memory past) c a n dest window S taken x near ∙ sym (other′ ∙ ap (λ (k : Value). recall (orElse k (getD window′ x 0))) known)

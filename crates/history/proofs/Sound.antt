@@ -4,7 +4,7 @@ use Prim.Native.Nat.{ℕ, _+_, _<_, _≤_}
 use native.Mathlib.Omega.{arith}
 use mathlib.Core.Path.{_≡_, refl, ap, subst, sym, _∙_}
 use mathlib.Core.Logic.{_≢_}
-use mathlib.Core.List.{List, []}
+use mathlib.Core.List.{List, [], _∷_}
 use mathlib.Core.Bool.{Bool, true, false, false≢true, cond, _||_}
 use lib.Dec.{eqb}
 use lib.ListN.{length, getD}
@@ -13,24 +13,24 @@ use Rattle.octets.proofs.Lists.{getD-same}
 use Rattle.octets.proofs.Overwrite.{overwrite-inside}
 use Rattle.state.specs.declared.Record.{Record}
 use Rattle.state.specs.declared.CommandState.{CommandState}
-use Rattle.state.specs.Limits.{commandLimit}
+use Rattle.state.specs.Limits.{commandLimit, storeSize}
 use Rattle.state.specs.Records.{inSpan, held, place}
-use Rattle.state.specs.State.{commandOf, recordsIn, recordsOf, withCommand, closed, open-with}
+use Rattle.state.specs.State.{commandOf, recordsIn, recordsOf, isOpen, withCommand, closed, open-with}
 use Rattle.state.specs.Verdict.{accepted}
 use Rattle.state.proofs.Laws.{held-joined, place-below, at-place}
 use Rattle.state.proofs.Commands.{command-same, command-other, records-open-with, Kept, kept, eight}
-use Rattle.cache.specs.Store.{partOf, sees}
+use Rattle.cache.specs.Store.{partStart, sees}
 use Rattle.cache.proofs.Accepted.{Fetched, fetched}
-use Rattle.history.specs.Runs.{Call, begin, fetch, end, hostWrite, ownWrite, show, Machine, start, says, after}
-use Rattle.history.specs.Journal.{deedOf}
+use Rattle.history.specs.Runs.{Call, begin, fetch, end, hostWrite, ownWrite, show, Machine, start, says, after, along, ran}
+use Rattle.history.specs.Journal.{Event, event, backwards, deedOf}
 use Rattle.history.specs.Firsts.{Value, none, first, orElse, Memory, remember, memory}
-use Rattle.history.proofs.Replaced.{replaced, Fits, byte-other}
+use Rattle.history.proofs.Replaced.{replaced, Fits, byte-other, length-replaced}
 use Rattle.history.proofs.Effects.{refused-same, old, grown, packed, zeros, begin-after, end-after, fetch-after, begin-fits, end-fits, packed-fits, length-packed, ascending-grown, total-grown}
 use Rattle.history.proofs.Invariant.{Whole, whole-start, whole-replaced}
 
 -- what the records and the store say of an address
 abbrev pub stored : List Record → ℕ → List ℕ → ℕ → Value
-stored rs c store x = cond (held rs x) (first (getD store (partOf c + place rs x) 0)) none
+stored rs c store x = cond (held rs x) (first (getD store (partStart c + place rs x) 0)) none
 
 -- the memory of an open command is what it holds
 abbrev pub Known : CommandState → List ℕ → Memory → ℕ → ℕ → Type 0
@@ -39,10 +39,14 @@ Known p store mem c x = p .opened ≡ true → mem c x ≡ stored (recordsIn p) 
 pub record Sound (m : Machine) (mem : Memory) : Type 0 where
   pub state : Whole (m .state)
   pub known : (c x : ℕ) → Known (commandOf (m .state) c) (m .store) mem c x
+  pub size : (c : ℕ) → isOpen (m .state) c ≡ true → length (m .store) ≡ storeSize
 
 pub sound-start : (store : List ℕ) → Sound (start store) (memory [])
 unfolding memory
-sound-start store = record { state = whole-start store; known = λ c x o. absurd (false≢true (rw (getD-same commandLimit c closed) at o)) }
+sound-start store = record { state = whole-start store; known = λ c x o. none-open c o; size = λ c o. none-open c o }
+  where
+    none-open : {A : Type 0} (c : ℕ) → commandOf (start store .state) c .opened ≡ true → A
+    none-open c o = absurd (false≢true (rw (getD-same commandLimit c closed) at o))
 
 -- A command replaced: the others know what they knew.
 
@@ -75,7 +79,7 @@ module _ (m : Machine) (c : ℕ) (next : CommandState) (bytes : List ℕ) (F : F
           (λ o. others d x apart ∙ S .known d x o ∙ sym (stored-other d x apart))
 
   pub sound-replaced : Sound (replaced m c next bytes) mem′
-  sound-replaced = record { state = whole-replaced F (S .state); known = known-replaced }
+  sound-replaced = record { state = whole-replaced F (S .state); known = known-replaced; size = λ d o. length-replaced F ∙ F .size }
 
 -- Fetch: what the command holds then is what its memory then has.
 
@@ -100,10 +104,10 @@ module _ (m : Machine) (c a n : ℕ) (dest window : List ℕ) (F : Fetched (m .s
           let up = ascending-grown m c a n dest window F in
           let size = length-packed m c a n dest window F in
           let near : place rs′ x < length bytes = omega (arith, place-below 0 rs′ x up h) in
-          let fits : partOf c + length bytes ≤ length (m .store) = omega (arith, total-grown m c a n dest window F, F .command, F .size) in
+          let fits : partStart c + length bytes ≤ length (m .store) = omega (arith, total-grown m c a n dest window F, F .command, F .size) in
           rw h
           (ap first
-          (overwrite-inside (m .store) bytes (partOf c) fits (place rs′ x) 0 near ∙ at-place (sees (old m c) c (m .store) window) 0 0 rs′ x up h))
+          (overwrite-inside (m .store) bytes (partStart c) fits (place rs′ x) 0 near ∙ at-place (sees (old m c) c (m .store) window) 0 0 rs′ x up h))
       go false h = rw h
 
   fetch-known : (mem : Memory) → Sound m mem → (x : ℕ)
@@ -111,7 +115,7 @@ module _ (m : Machine) (c a n : ℕ) (dest window : List ℕ) (F : Fetched (m .s
   unfolding remember
   fetch-known mem S x =
       rw (eq-eqb c c refl, S .known c x (F .opened), fetch-stored x, held-joined (old m c) a n x)
-      (merge (held (old m c) x) (inSpan a n x) (getD (m .store) (partOf c + place (old m c) x) 0) (getD window x 0))
+      (merge (held (old m c) x) (inSpan a n x) (getD (m .store) (partStart c + place (old m c) x) 0) (getD window x 0))
 
 -- Every call keeps it.
 
@@ -132,3 +136,9 @@ sound-after m mem (end c) true e S =
 sound-after m mem (hostWrite a bytes window) true e S = S
 sound-after m mem (ownWrite c a bytes window) true e S = S
 sound-after m mem (show c i) true e S = S
+
+-- and so does every list
+pub sound-ran : (past : List Event) (m : Machine) (ps : List Call) → Sound m (memory past) → Sound (ran m ps) (memory (backwards past (along event m ps)))
+unfolding ran along backwards memory
+sound-ran past m [] S = S
+sound-ran past m (p ∷ ps) S = sound-ran (event m p ∷ past) (after m p) ps (sound-after m (memory past) p (accepted (says m p)) refl S)

@@ -2,24 +2,23 @@
 use Prim.Native.Nat.{ℕ, _+_, _≤_}
 use native.Mathlib.Omega.{arith}
 use mathlib.Core.Path.{_≡_, refl, ap, sym, _∙_}
-use mathlib.Core.List.{List, [], map}
+use mathlib.Core.List.{List}
 use mathlib.Core.Bool.{Bool, true, false, false≢true}
 use lib.ListN.{length, getD}
 use Rattle.octets.specs.Lists.{overwrite}
 use Rattle.octets.proofs.Overwrite.{overwrite-same, overwrite-none}
-use Rattle.state.specs.declared.CacheState.{CacheState}
-use Rattle.state.specs.Records.{held, place, span, addresses, total, countFresh, joined}
+use Rattle.state.specs.Records.{place, span, total, countFresh, joined}
 use Rattle.state.specs.State.{hasShape}
 use Rattle.state.specs.Verdict.{accepted}
 use Rattle.state.proofs.Laws.{packed-back, map-held}
 use Rattle.state.proofs.Commands.{kept, command-kept, open-with-own}
-use Rattle.cache.specs.Store.{partOf, sees}
+use Rattle.cache.specs.Store.{partStart, sees}
 use Rattle.cache.specs.Fetch.{fetchDest}
 use Rattle.cache.specs.HostWrite.{hostWindow}
 use Rattle.cache.specs.OwnWrite.{ownWindow}
 use Rattle.cache.proofs.Accepted.{Fetched, fetched, fetched-reply}
 use Rattle.history.specs.Runs.{Call, begin, fetch, end, hostWrite, ownWrite, show, Machine, says, after, destGiven, destAfter, windowGiven, windowAfter}
-use Rattle.history.specs.Claims.{Unchanged, RefusedUnchanged, Empty, EmptyFetch}
+use Rattle.history.specs.Claims.{RefusedUnchanged, Empty, EmptyFetch}
 use Rattle.history.proofs.Effects.{refused-same, old, packed, fetch-after}
 
 dest-refused : (m : Machine) (p : Call) → accepted (says m p) ≡ false → destAfter m p ≡ destGiven p
@@ -51,14 +50,14 @@ module _ (m : Machine) (c a : ℕ) (dest window : List ℕ) (shape : hasShape (m
   F = fetched (m .state) (length (m .store)) (length window) (length dest) c a 0 e
 
   -- the bytes written are those that stand there
-  packed-same : overwrite (m .store) (partOf c) (packed m c a 0 window) ≡ m .store
+  packed-same : overwrite (m .store) (partStart c) (packed m c a 0 window) ≡ m .store
   unfolding joined
   packed-same =
       let K = kept (m .state) c (F .whole) in
-      let fits : partOf c + total (old m c) ≤ length (m .store) = omega (arith, K .small, F .command, F .size) in
-      let stand = packed-back (m .store) (partOf c) 0 (old m c) (K .up) fits in
-      let read = map-held (sees (old m c) c (m .store) window) (λ x. getD (m .store) (partOf c + place (old m c) x) 0) (old m c) (λ x h. rw h) in
-      ap (overwrite (m .store) (partOf c)) (read ∙ stand) ∙ overwrite-same (m .store) (partOf c) (total (old m c)) fits
+      let fits : partStart c + total (old m c) ≤ length (m .store) = omega (arith, K .small, F .command, F .size) in
+      let stand = packed-back (m .store) (partStart c) 0 (old m c) (K .up) fits in
+      let read = map-held (sees (old m c) c (m .store) window) (λ x. getD (m .store) (partStart c + place (old m c) x) 0) (old m c) (λ x h. rw h) in
+      ap (overwrite (m .store) (partStart c)) (read ∙ stand) ∙ overwrite-same (m .store) (partStart c) (total (old m c)) fits
 
   dest-same : destAfter m (fetch c a 0 dest window) ≡ dest
   unfolding fetchDest span

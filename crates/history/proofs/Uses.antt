@@ -35,14 +35,14 @@ unfolding counting
 retire checked written =
     begin 1 ∷ fetch 1 2 1 dest (counting checked) ∷ hostWrite 2 (written ∷ []) (counting checked) ∷ fetch 1 2 4 dest (counting written) ∷ []
 
--- Overwritten by 40 or left at 4: the first fetches are the same, so the firmware gets the same bytes.
+-- Overwritten by 40, or by 4 again: the first fetches are the same, so the firmware gets the same bytes.
 same-firsts : told firsts [] (journal store (retire 4 40)) ≡ told firsts [] (journal store (retire 4 4))
 unfolding store retire told along beginSays beginState beginStore fetchSays fetchState fetchStore hostSays verdict accepted all ascending commandHolds holds total held span countFresh keep lowest highest joined addresses place remember memory firstsAmong firstsBy
 same-firsts = refl
 
-checked-is-used : along delivers (start store) (retire 4 40) ≡ along delivers (start store) (retire 4 4)
+same-delivered : along delivers (start store) (retire 4 40) ≡ along delivers (start store) (retire 4 4)
 unfolding retire common
-checked-is-used = equal-runs store (retire 4 40) (retire 4 4) refl .exactly .1 same-firsts .1
+same-delivered = equal-runs store (retire 4 40) (retire 4 4) refl .exactly .1 same-firsts .1
 
 -- and these are the bytes: the count is 4 when it is used, as it was when it was checked
 delivered-bytes : along delivers (start store) (retire 4 40) ≡ [] ∷ (4 ∷ []) ∷ [] ∷ (4 ∷ 11 ∷ 12 ∷ 13 ∷ []) ∷ []

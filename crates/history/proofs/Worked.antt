@@ -1,5 +1,6 @@
 -- The definitions on one small run: two commands fetch the same address, one of them again after the host has changed it, then
--- past the window, where it is refused, and once more after its end and another begin.
+-- twice past the window, where it is refused although in the second case it holds every byte, and once more after its end and
+-- another begin.
 use Prim.Native.Nat.{ℕ}
 use native.Mathlib.Omega.{arith}
 use mathlib.Core.Path.{_≡_, refl}
@@ -10,14 +11,14 @@ use lib.ListN.{replicate}
 use Rattle.octets.specs.Lists.{all}
 use Rattle.state.specs.Records.{held, span, addresses, total, place, countFresh, keep, lowest, highest, joined}
 use Rattle.state.specs.State.{ascending, commandHolds, holds}
-use Rattle.state.specs.Verdict.{Reply, refused, replied, verdict, accepted}
+use Rattle.state.specs.Verdict.{refused, replied, verdict, accepted}
 use Rattle.cache.specs.Begin.{beginSays, beginState, beginStore}
 use Rattle.cache.specs.Fetch.{fetchSays, fetchState, fetchStore, fetchDest}
 use Rattle.cache.specs.End.{endSays, endState, endStore}
-use Rattle.history.specs.Runs.{Call, begin, fetch, end, hostWrite, start, along, says, delivers}
+use Rattle.history.specs.Runs.{Call, begin, fetch, end, hostWrite, start, along, delivers}
 use Rattle.history.specs.Journal.{Event, journal, told, deed}
 use Rattle.history.specs.Firsts.{remember, memory, First, firstsAmong, firstsBy, firsts, owedBy, owed}
-use Rattle.history.specs.Counts.{countsReplied, countsBy, countsOwed, bytesReplied, add, freshSince, sumOwed}
+use Rattle.history.specs.Counts.{countsBy, countsOwed, add, freshSince, sumOwed}
 use Rattle.history.specs.Claims.{begins, mayChange, common}
 
 abbrev dest : List ℕ
@@ -27,7 +28,7 @@ dest = 0 ∷ 0 ∷ 0 ∷ []
 calls : List Call
 calls =
     begin 1 ∷ begin 2 ∷ fetch 1 0 2 dest (4 ∷ 5 ∷ 6 ∷ []) ∷ fetch 2 0 1 dest (40 ∷ 50 ∷ 60 ∷ []) ∷ fetch 1 0 3 dest (40 ∷ 50 ∷ 60 ∷ [])
-    ∷ fetch 1 2 2 dest (7 ∷ 8 ∷ 9 ∷ []) ∷ begin 1 ∷ end 1 ∷ begin 1 ∷ fetch 1 0 1 dest (7 ∷ 8 ∷ 9 ∷ []) ∷ end 1 ∷ []
+    ∷ fetch 1 2 2 dest (7 ∷ 8 ∷ 9 ∷ []) ∷ fetch 1 0 3 dest (7 ∷ 8 ∷ []) ∷ begin 1 ∷ end 1 ∷ begin 1 ∷ fetch 1 0 1 dest (7 ∷ 8 ∷ 9 ∷ []) ∷ end 1 ∷ []
 
 run : List Event
 unfolding calls along beginSays beginState beginStore fetchSays fetchState fetchStore endSays endState endStore verdict accepted all ascending commandHolds holds total held span countFresh keep lowest highest joined addresses place
@@ -35,7 +36,7 @@ run = journal (replicate 32768 3) calls
 
 answers : map (λ e. e .answer) run
     ≡ replied [] ∷ replied [] ∷ replied (2 ∷ 0 ∷ []) ∷ replied (1 ∷ 0 ∷ []) ∷ replied (1 ∷ 2 ∷ [])
-    ∷ refused 9 ∷ refused 22 ∷ replied (1 ∷ 3 ∷ []) ∷ replied [] ∷ replied (1 ∷ 0 ∷ []) ∷ replied (1 ∷ 1 ∷ []) ∷ []
+    ∷ refused 9 ∷ refused 9 ∷ refused 22 ∷ replied (1 ∷ 3 ∷ []) ∷ replied [] ∷ replied (1 ∷ 0 ∷ []) ∷ replied (1 ∷ 1 ∷ []) ∷ []
 unfolding run
 answers = refl
 
@@ -44,26 +45,26 @@ x ↦↦ v = record { address = x; value = v }
 
 infix 80 _↦↦_
 first-fetches : told firsts [] run
-    ≡ [] ∷ [] ∷ (0 ↦↦ 4 ∷ 1 ↦↦ 5 ∷ []) ∷ (0 ↦↦ 40 ∷ []) ∷ (2 ↦↦ 60 ∷ []) ∷ [] ∷ [] ∷ [] ∷ [] ∷ (0 ↦↦ 7 ∷ []) ∷ [] ∷ []
+    ≡ [] ∷ [] ∷ (0 ↦↦ 4 ∷ 1 ↦↦ 5 ∷ []) ∷ (0 ↦↦ 40 ∷ []) ∷ (2 ↦↦ 60 ∷ []) ∷ [] ∷ [] ∷ [] ∷ [] ∷ [] ∷ (0 ↦↦ 7 ∷ []) ∷ [] ∷ []
 unfolding run told remember memory firstsAmong firstsBy
 first-fetches = refl
 
 bytes-owed : told owed [] run
-    ≡ [] ∷ [] ∷ (4 ∷ 5 ∷ []) ∷ (40 ∷ []) ∷ (4 ∷ 5 ∷ 60 ∷ []) ∷ [] ∷ [] ∷ [] ∷ [] ∷ (7 ∷ []) ∷ [] ∷ []
+    ≡ [] ∷ [] ∷ (4 ∷ 5 ∷ []) ∷ (40 ∷ []) ∷ (4 ∷ 5 ∷ 60 ∷ []) ∷ [] ∷ [] ∷ [] ∷ [] ∷ [] ∷ (7 ∷ []) ∷ [] ∷ []
 unfolding run told remember memory owedBy
 bytes-owed = refl
 
 bytes-delivered : along delivers (start (replicate 32768 3)) calls
-    ≡ [] ∷ [] ∷ (4 ∷ 5 ∷ []) ∷ (40 ∷ []) ∷ (4 ∷ 5 ∷ 60 ∷ []) ∷ [] ∷ [] ∷ [] ∷ [] ∷ (7 ∷ []) ∷ [] ∷ []
+    ≡ [] ∷ [] ∷ (4 ∷ 5 ∷ []) ∷ (40 ∷ []) ∷ (4 ∷ 5 ∷ 60 ∷ []) ∷ [] ∷ [] ∷ [] ∷ [] ∷ [] ∷ (7 ∷ []) ∷ [] ∷ []
 unfolding run fetchDest
 bytes-delivered = refl
 
 counts-owed : told countsOwed [] run
-    ≡ [] ∷ [] ∷ (2 ∷ 0 ∷ []) ∷ (1 ∷ 0 ∷ []) ∷ (1 ∷ 2 ∷ []) ∷ [] ∷ [] ∷ [] ∷ [] ∷ (1 ∷ 0 ∷ []) ∷ [] ∷ []
+    ≡ [] ∷ [] ∷ (2 ∷ 0 ∷ []) ∷ (1 ∷ 0 ∷ []) ∷ (1 ∷ 2 ∷ []) ∷ [] ∷ [] ∷ [] ∷ [] ∷ [] ∷ (1 ∷ 0 ∷ []) ∷ [] ∷ []
 unfolding run told remember memory firstsAmong countsBy
 counts-owed = refl
 
-sums-owed : told sumOwed [] run ≡ [] ∷ [] ∷ [] ∷ [] ∷ [] ∷ [] ∷ [] ∷ (3 ∷ []) ∷ [] ∷ [] ∷ (1 ∷ []) ∷ []
+sums-owed : told sumOwed [] run ≡ [] ∷ [] ∷ [] ∷ [] ∷ [] ∷ [] ∷ [] ∷ [] ∷ (3 ∷ []) ∷ [] ∷ [] ∷ (1 ∷ []) ∷ []
 unfolding run told add freshSince
 sums-owed = refl
 

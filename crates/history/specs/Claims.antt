@@ -1,20 +1,21 @@
--- The claims about whole lists of calls, refused ones included, from the fresh state and a store of any bytes and any length.
-use Prim.Native.Nat.{ℕ, _-_}
+-- The claims about whole lists of calls, refused ones included, from the fresh state and a store of any bytes and any length; and
+-- at the end those about one call, whatever state and store it is given.
+use Prim.Native.Nat.{ℕ, _+_, _-_}
 use mathlib.Core.Path.{_≡_}
 use mathlib.Core.List.{List, [], _∷_, map}
-use mathlib.Core.Bool.{Bool, true, false, not, _&&_}
+use mathlib.Core.Bool.{Bool, true, false, not}
 use mathlib.Core.Logic.{_↔_, _≢_}
 use lib.Dec.{eqb}
-use lib.ListN.{length, getD, replicate}
+use lib.ListN.{length, getD, take, drop, replicate}
 use Rattle.octets.specs.Lists.{all, part}
 use Rattle.state.specs.Limits.{heldLimit}
-use Rattle.state.specs.Records.{inSpan}
-use Rattle.state.specs.State.{holds, hasShape, commandOf}
+use Rattle.state.specs.Records.{inSpan, held, addresses, total}
+use Rattle.state.specs.State.{holds, hasShape, commandOf, recordsOf, isOpen}
 use Rattle.state.specs.Verdict.{refused, replied, accepted}
-use Rattle.cache.specs.Store.{partOf}
+use Rattle.cache.specs.Store.{partStart}
 use Rattle.history.specs.Runs.{Call, begin, fetch, end, hostWrite, ownWrite, show, Machine, start, along, ran, says, stateAfter, storeAfter, after, destGiven, destAfter, windowGiven, windowAfter, delivers}
-use Rattle.history.specs.Journal.{Event, event, journal, told, Deed, began, fetched, ended, other, deed}
-use Rattle.history.specs.Firsts.{firsts, owed}
+use Rattle.history.specs.Journal.{Event, event, journal, told, backwards, Deed, began, fetched, ended, other, deed}
+use Rattle.history.specs.Firsts.{Memory, memory, isKnown, fetchedSince, firsts, recall, owed}
 use Rattle.history.specs.Counts.{countsReplied, countsOwed, bytesReplied, sumOwed}
 
 -- Demand 2. The delivery rule: the bytes delivered at each call are those that the first fetches since the command's begin saw.
@@ -29,8 +30,26 @@ CountsTie = (store : List ℕ) (ps : List Call) → told countsReplied [] (journ
 abbrev pub EndSum : Type 0
 EndSum = (store : List ℕ) (ps : List Call) → told bytesReplied [] (journal store ps) ≡ told sumOwed [] (journal store ps)
 
+-- What the memory knows is what 01's search back through the calls finds.
+abbrev pub MemorySearch : Type 0
+MemorySearch = (past : List Event) (c x : ℕ) → isKnown (memory past c x) ≡ fetchedSince past c x
+
+-- Records and stored bytes: after every list the records of an open command hold just the addresses that it has fetched since its
+-- begin, and the front of its part has the values first fetched, packed in the order of the addresses.
+abbrev pub memoryAfter : List ℕ → List Call → Memory
+memoryAfter store ps = memory (backwards [] (journal store ps))
+
+pub record Holding (store : List ℕ) (ps : List Call) (c : ℕ) : Type 0 where
+  pub records : (x : ℕ) → held (recordsOf (ran (start store) ps .state) c) x ≡ isKnown (memoryAfter store ps c x)
+  pub bytes :
+      part (ran (start store) ps .store) (partStart c) (total (recordsOf (ran (start store) ps .state) c))
+      ≡ map (λ x. recall (memoryAfter store ps c x)) (addresses (recordsOf (ran (start store) ps .state) c))
+
+abbrev pub StoredBytes : Type 0
+StoredBytes = (store : List ℕ) (ps : List Call) (c : ℕ) → isOpen (ran (start store) ps .state) c ≡ true → Holding store ps c
+
 -- Midas' invariant: where a command fetches an address twice, and no begin of it is accepted between the two, both deliver the
--- same value there. (An end between them does not matter: the later fetch is accepted only after another begin.)
+-- same value there. (An end between them does not matter: the other fetch is accepted only after another begin.)
 abbrev pub begins : ℕ → Deed → Bool
 begins c (began d) = eqb c d
 begins c (fetched d a n window) = false
@@ -38,24 +57,24 @@ begins c (ended d) = false
 begins c other = false
 
 module _ (store : List ℕ) (before : List Call) (c a n : ℕ) (dest window : List ℕ) (between : List Call) (a′ n′ : ℕ) (dest′ window′ : List ℕ) where
-  abbrev pub earlier : Call
-  earlier = fetch c a n dest window
+  abbrev pub oneFetch : Call
+  oneFetch = fetch c a n dest window
 
-  abbrev pub later : Call
-  later = fetch c a′ n′ dest′ window′
+  abbrev pub otherFetch : Call
+  otherFetch = fetch c a′ n′ dest′ window′
 
-  abbrev pub atEarlier : Machine
-  atEarlier = ran (start store) before
+  abbrev pub beforeOne : Machine
+  beforeOne = ran (start store) before
 
-  abbrev pub atLater : Machine
-  atLater = ran (after atEarlier earlier) between
+  abbrev pub beforeOther : Machine
+  beforeOther = ran (after beforeOne oneFetch) between
 
   abbrev pub SameValue : Type 0
   SameValue =
-      accepted (says atEarlier earlier) ≡ true → accepted (says atLater later) ≡ true
-      → all (λ e. not (begins c (deed e))) (along event (after atEarlier earlier) between) ≡ true
+      accepted (says beforeOne oneFetch) ≡ true → accepted (says beforeOther otherFetch) ≡ true
+      → all (λ e. not (begins c (deed e))) (along event (after beforeOne oneFetch) between) ≡ true
       → (x : ℕ) → inSpan a n x ≡ true → inSpan a′ n′ x ≡ true
-      → getD (delivers atEarlier earlier) (x - a) 0 ≡ getD (delivers atLater later) (x - a′) 0
+      → getD (delivers beforeOne oneFetch) (x - a) 0 ≡ getD (delivers beforeOther otherFetch) (x - a′) 0
 
 abbrev pub SameValueRule : Type 0
 SameValueRule =
@@ -109,10 +128,10 @@ mayChange (ownWrite c a bytes window) d = false
 mayChange (show c i) d = false
 
 abbrev pub partIn : Machine → ℕ → List ℕ
-partIn m c = part (m .store) (partOf c) heldLimit
+partIn m c = part (m .store) (partStart c) heldLimit
 
 pub record Alone (m : Machine) (p : Call) (d : ℕ) : Type 0 where
-  pub records : commandOf (after m p .state) d ≡ commandOf (m .state) d
+  pub command : commandOf (after m p .state) d ≡ commandOf (m .state) d
   pub bytes : partIn (after m p) d ≡ partIn m d
 
 abbrev pub Isolation : Type 0
@@ -135,3 +154,15 @@ pub record Empty (m : Machine) (c a : ℕ) (dest window : List ℕ) : Type 0 whe
 
 abbrev pub EmptyFetch : Type 0
 EmptyFetch = (m : Machine) (c a : ℕ) (dest window : List ℕ) → hasShape (m .state) ≡ true → Empty m c a dest window
+
+-- 01's rule on what a fetch leaves untouched: past the span the destination, and the store before the command's part and from the
+-- new held count on.
+pub record Beyond (m : Machine) (c a n : ℕ) (dest window : List ℕ) : Type 0 where
+  pub destination : drop n (destAfter m (fetch c a n dest window)) ≡ drop n dest
+  pub before : take (partStart c) (storeAfter m (fetch c a n dest window)) ≡ take (partStart c) (m .store)
+  pub behind :
+      drop (partStart c + total (recordsOf (stateAfter m (fetch c a n dest window)) c)) (storeAfter m (fetch c a n dest window))
+      ≡ drop (partStart c + total (recordsOf (stateAfter m (fetch c a n dest window)) c)) (m .store)
+
+abbrev pub BeyondUnchanged : Type 0
+BeyondUnchanged = (m : Machine) (c a n : ℕ) (dest window : List ℕ) → hasShape (m .state) ≡ true → Beyond m c a n dest window

@@ -2,7 +2,7 @@
 -- (01, "Two runs of one list").
 use Prim.Native.Nat.{ℕ}
 use mathlib.Core.List.{List, [], _∷_, map}
-use mathlib.Core.Bool.{Bool, cond, _&&_}
+use mathlib.Core.Bool.{Bool, true, false, cond, _&&_}
 use lib.Dec.{eqb}
 use lib.ListN.{getD}
 use Rattle.state.specs.Records.{inSpan, span}
@@ -32,6 +32,22 @@ remember mem other = mem
 unfoldable pub memory : List Event → Memory
 memory [] = λ c x. none
 memory (e ∷ past) = remember (memory past) (deed e)
+
+-- Whether the memory has a value is what a search back through the events finds: an accepted fetch by c with the address in its
+-- span, before any accepted begin of c is met.
+abbrev pub isKnown : Value → Bool
+isKnown none = false
+isKnown (first v) = true
+
+unfoldable pub finds : Deed → (c x : ℕ) → Bool → Bool
+finds (began d) c x further = cond (eqb c d) false further
+finds (fetched d a n window) c x further = cond (eqb c d && inSpan a n x) true further
+finds (ended d) c x further = further
+finds other c x further = further
+
+unfoldable pub fetchedSince : List Event → (c x : ℕ) → Bool
+fetchedSince [] c x = false
+fetchedSince (e ∷ past) c x = finds (deed e) c x (fetchedSince past c x)
 
 -- a first fetch: the address, and the value meant, which is the one in the window given to that fetch
 pub record First : Type 0 where

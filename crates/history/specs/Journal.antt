@@ -21,6 +21,11 @@ unfoldable pub told : {A : Type 0} → (List Event → Event → A) → List Eve
 told f past [] = []
 told f past (e ∷ es) = f past e ∷ told f (e ∷ past) es
 
+-- the events of a journal, the latest first
+unfoldable pub backwards : List Event → List Event → List Event
+backwards past [] = past
+backwards past (e ∷ es) = backwards (e ∷ past) es
+
 -- What an event did: an accepted begin, fetch or end of a command. A refused call, a write and a show do nothing of these.
 pub data Deed : Type 0 where
   began : (c : ℕ) → Deed

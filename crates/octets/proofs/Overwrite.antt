@@ -3,7 +3,7 @@ use Prim.Native.Nat.{ℕ, _+_, _-_, _≤_, _<_}
 use native.Mathlib.Omega.{arith}
 use native.Mathlib.Nat.{zero-add, add-zero}
 use mathlib.Core.Path.{_≡_, ap, subst, _∙_}
-use mathlib.Core.List.{List, [], _++_, append-nil}
+use mathlib.Core.List.{List, [], _++_, append-nil, append-assoc}
 use lib.ListN.{length, take, drop, getD, length-append, length-take, length-drop, take-append-drop, List·getD-append}
 use lib.Seq.{length-take-le, take-at, drop-at, take-add, getD-take, getD-drop, ext-getD}
 use Rattle.octets.specs.Lists.{overwrite, part}
@@ -26,6 +26,13 @@ module _ (buffer bytes : List ℕ) (at : ℕ) (fits : at + length bytes ≤ leng
 
   pub length-overwrite : length (overwrite buffer at bytes) ≡ length buffer
   length-overwrite = simp (length-append, length-drop, front) (omega arith)
+
+  -- what stands before the bytes and behind them
+  pub overwrite-before : take at (overwrite buffer at bytes) ≡ take at buffer
+  overwrite-before = rw append-assoc (take-at (take at buffer) (bytes ++ drop (at + length bytes) buffer) at front)
+
+  pub overwrite-behind : drop (at + length bytes) (overwrite buffer at bytes) ≡ drop (at + length bytes) buffer
+  overwrite-behind = drop-at (take at buffer ++ bytes) (drop (at + length bytes) buffer) (at + length bytes) front-bytes
 
   pub overwrite-inside : (i d : ℕ) → i < length bytes → getD (overwrite buffer at bytes) (at + i) d ≡ getD bytes i d
   overwrite-inside i d h =

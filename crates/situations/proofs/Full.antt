@@ -1,31 +1,30 @@
 -- Situation E fills a command. Its answers and records are computed; its 4,096 bytes are known by the delivery rule and by the
 -- laws of spans, which is far cheaper than to look each of them up in a list.
-use Prim.Native.Nat.{ℕ, _+_, _<_, _≤_}
+use Prim.Native.Nat.{ℕ, _+_}
 use native.Mathlib.Omega.{arith}
-use native.Mathlib.Nat.{zero-add}
 use mathlib.Core.Path.{_≡_, refl, ap, ap₂, sym, subst, fun-ext, _∙_}
-use mathlib.Core.List.{List, [], _∷_, map, append-nil}
+use mathlib.Core.List.{List, [], _∷_, map}
 use mathlib.Core.Bool.{Bool, true, false, cond, _&&_}
-use lib.Dec.{leb, ltb, eqb}
+use lib.Dec.{leb, ltb}
 use lib.ListN.{length, take, getD}
-use borrow.Author.Tests.{le-leb, lt-ltb, eq-eqb}
+use borrow.Author.Tests.{eq-eqb}
 use Rattle.octets.specs.Lists.{all}
 use Rattle.octets.proofs.Lists.{both}
 use Rattle.state.specs.declared.Record.{Record}
 use Rattle.state.specs.declared.CacheState.{CacheState}
-use Rattle.state.specs.Records.{held, inSpan, span, total, countFresh, keep, lowest, highest, joined}
+use Rattle.state.specs.Records.{held, span, total, countFresh, keep, lowest, highest, joined}
 use Rattle.state.specs.State.{freshState, open-with, withCommand, recordsOf, ascending, commandHolds, holds}
 use Rattle.state.specs.Verdict.{Reply, refused, replied, accepted, verdict}
-use Rattle.state.proofs.Places.{map-span, map-read}
-use Rattle.cache.specs.Begin.{beginSays, beginState, beginStore}
+use Rattle.state.proofs.Places.{map-read}
+use Rattle.cache.specs.Begin.{beginSays, beginState}
 use Rattle.cache.specs.Fetch.{fetchSays, fetchState}
-use Rattle.history.specs.Runs.{Call, begin, fetch, Machine, start, says, after, delivers}
+use Rattle.history.specs.Runs.{Call, begin, fetch, Machine, start, says, after, windowAfter, delivers}
 use Rattle.history.specs.Journal.{fetched, deedOf}
 use Rattle.history.specs.Firsts.{none, first, Memory, remember, memory, recall, orElse, owedBy}
 use Rattle.history.proofs.Effects.{refused-same, length-after}
 use Rattle.history.proofs.Sound.{Sound, sound-start, sound-after}
 use Rattle.history.proofs.Delivery.{delivers-owed}
-use Rattle.situations.specs.Steps.{sameNumbers, sameAnswer, sameRecords, Records, unsaid, are, Step, passes}
+use Rattle.situations.specs.Steps.{sameNumbers, sameAnswer, sameRecords, asExpected, Expected, unsaid, is, Step, passes}
 use Rattle.situations.specs.Situations.{bytesOf, window, dest, store, opens, fetches, turnedAway, E}
 
 -- a step passes by equations
@@ -41,12 +40,14 @@ same-answer (replied ns) = same-numbers ns
 
 step :
     (m : Machine) (t : Step) (ts : List Step) → says m (t .call) ≡ t .answer → delivers m (t .call) ≡ t .bytes
-    → sameRecords (t .records) (recordsOf (after m (t .call) .state) 0) ≡ true → passes (after m (t .call)) ts ≡ true → passes m (t ∷ ts) ≡ true
-unfolding passes
-step m t ts answer bytes records rest =
+    → asExpected sameRecords (t .records) (recordsOf (after m (t .call) .state) 0) ≡ true → t .window ≡ unsaid → passes (after m (t .call)) ts ≡ true
+    → passes m (t ∷ ts) ≡ true
+unfolding passes asExpected
+step m t ts answer bytes records silent rest =
     let says-it : sameAnswer (t .answer) (says m (t .call)) ≡ true = rw answer (same-answer (t .answer)) in
     let gives-it : sameNumbers (t .bytes) (delivers m (t .call)) ≡ true = rw bytes (same-numbers (t .bytes)) in
-    both (both (both says-it gives-it) records) rest
+    let leaves-it : asExpected sameNumbers (t .window) (windowAfter m (t .call)) ≡ true = rw silent in
+    both (both (both (both says-it gives-it) records) leaves-it) rest
 
 -- the call that fills the command, and the one that finds it full
 abbrev fill : Call
@@ -195,32 +196,32 @@ again-delivers = delivers-owed filled (remember known (deedOf true fill)) fill t
 again-state : after filled fill .state ≡ full
 again-state = next-state filled full filled-state filled-size ∙ again-next
 
-full-records : (s : CacheState) → s ≡ full → sameRecords (are (record { start = 0; len = 4096 } ∷ [])) (recordsOf s 0) ≡ true
-full-records s is = subst (λ (t : CacheState). sameRecords (are (record { start = 0; len = 4096 } ∷ [])) (recordsOf t 0) ≡ true) (sym is) (unfold sameRecords in refl)
+abbrev whole-record : Expected (List Record)
+whole-record = is (record { start = 0; len = 4096 } ∷ [])
+
+full-records : (s : CacheState) → s ≡ full → asExpected sameRecords whole-record (recordsOf s 0) ≡ true
+full-records s e = subst (λ (t : CacheState). asExpected sameRecords whole-record (recordsOf t 0) ≡ true) (sym e) (unfold asExpected sameRecords in refl)
 
 no-more : (m : Machine) → passes m [] ≡ true
 unfolding passes
 no-more m = refl
 
-abbrev whole-record : Records
-whole-record = are (record { start = 0; len = 4096 } ∷ [])
-
 again-passes : passes filled (fetches 0 4096 0 4096 whole-record ∷ []) ≡ true
 unfolding fetches
-again-passes = step filled (fetches 0 4096 0 4096 whole-record) [] again-taken again-delivers (full-records _ again-state) (no-more _)
+again-passes = step filled (fetches 0 4096 0 4096 whole-record) [] again-taken again-delivers (full-records _ again-state) refl (no-more _)
 
 past-passes : passes filled (turnedAway 4096 1 23 whole-record ∷ fetches 0 4096 0 4096 whole-record ∷ []) ≡ true
 unfolding turnedAway
 past-passes =
     step filled (turnedAway 4096 1 23 whole-record) (fetches 0 4096 0 4096 whole-record ∷ []) past-taken past-delivers
-    (full-records _ (ap (λ (m : Machine). m .state) past-same ∙ filled-state))
+    (full-records _ (ap (λ (m : Machine). m .state) past-same ∙ filled-state)) refl
     (subst (λ (m : Machine). passes m (fetches 0 4096 0 4096 whole-record ∷ []) ≡ true) (sym past-same) again-passes)
 
 fill-passes : passes opened E ≡ true
-unfolding E fetches filled sameRecords
+unfolding E fetches filled asExpected
 fill-passes =
     step opened (fetches 0 4096 4096 0 unsaid) (turnedAway 4096 1 23 whole-record ∷ fetches 0 4096 0 4096 whole-record ∷ [])
-    fill-taken fill-delivers refl past-passes
+    fill-taken fill-delivers refl refl past-passes
 
 opens-passes : (ts : List Step) → passes opened ts ≡ true → passes (start store) (opens ∷ ts) ≡ true
 unfolding passes opened opens store

@@ -1,15 +1,15 @@
--- 01's marked situations, those with a star. Each starts with command 0 open, no records, and a window of 16,384 bytes.
-use Prim.Native.Nat.{ℕ, _+_, _*_, _%_}
+-- 01's marked situations with a star, but for I, which is of frames. Each starts with command 0 open, no records, and a window of 16,384 bytes.
+use Prim.Native.Nat.{ℕ, _*_, _%_}
 use mathlib.Core.Path.{_≡_}
 use mathlib.Core.List.{List, [], _∷_, _++_, map}
 use mathlib.Core.Bool.{true}
 use lib.ListN.{replicate}
-use Rattle.octets.specs.Lists.{all, overwrite}
+use Rattle.octets.specs.Lists.{all}
 use Rattle.state.specs.declared.Record.{Record}
 use Rattle.state.specs.Records.{span}
-use Rattle.state.specs.Verdict.{Reply, refused, replied}
-use Rattle.history.specs.Runs.{Call, begin, fetch, ownWrite, start}
-use Rattle.situations.specs.Steps.{Records, unsaid, are, Step, passes}
+use Rattle.state.specs.Verdict.{refused, replied}
+use Rattle.history.specs.Runs.{begin, fetch, ownWrite, start}
+use Rattle.situations.specs.Steps.{Expected, unsaid, is, Step, passes}
 
 -- the byte at each address is its number modulo 256
 unfoldable pub bytesOf : ℕ → ℕ → List ℕ
@@ -32,36 +32,36 @@ a ∔ n = record { start = a; len = n }
 
 infix 80 _∔_
 unfoldable pub opens : Step
-opens = record { call = begin 0; answer = replied []; bytes = []; records = are [] }
+opens = record { call = begin 0; answer = replied []; bytes = []; records = is []; window = unsaid }
 
 -- command 0 fetches a+n and is given its bytes, or is turned away
-unfoldable pub fetches : (a n fresh replayed : ℕ) → Records → Step
+unfoldable pub fetches : (a n fresh replayed : ℕ) → Expected (List Record) → Step
 unfolding bytesOf window dest
-fetches a n fresh replayed rs = record { call = fetch 0 a n dest window; answer = replied (fresh ∷ replayed ∷ []); bytes = bytesOf a n; records = rs }
+fetches a n fresh replayed rs = record { call = fetch 0 a n dest window; answer = replied (fresh ∷ replayed ∷ []); bytes = bytesOf a n; records = rs; window = unsaid }
 
-unfoldable pub turnedAway : (a n number : ℕ) → Records → Step
+unfoldable pub turnedAway : (a n number : ℕ) → Expected (List Record) → Step
 unfolding window dest
-turnedAway a n number rs = record { call = fetch 0 a n dest window; answer = refused number; bytes = []; records = rs }
+turnedAway a n number rs = record { call = fetch 0 a n dest window; answer = refused number; bytes = []; records = rs; window = unsaid }
 
 unfoldable pub A : List Step
 unfolding fetches
-A = fetches 16 4 4 0 (are (16 ∔ 4 ∷ [])) ∷ fetches 14 8 4 4 (are (14 ∔ 8 ∷ [])) ∷ []
+A = fetches 16 4 4 0 (is (16 ∔ 4 ∷ [])) ∷ fetches 14 8 4 4 (is (14 ∔ 8 ∷ [])) ∷ []
 
 unfoldable pub B : List Step
 unfolding fetches
-B = fetches 0 4 4 0 unsaid ∷ fetches 4 4 4 0 (are (0 ∔ 4 ∷ 4 ∔ 4 ∷ [])) ∷ fetches 2 4 0 4 (are (0 ∔ 8 ∷ [])) ∷ []
+B = fetches 0 4 4 0 unsaid ∷ fetches 4 4 4 0 (is (0 ∔ 4 ∷ 4 ∔ 4 ∷ [])) ∷ fetches 2 4 0 4 (is (0 ∔ 8 ∷ [])) ∷ []
 
 unfoldable pub C : List Step
 unfolding fetches
-C = fetches 16384 0 0 0 (are []) ∷ []
+C = fetches 16384 0 0 0 (is []) ∷ []
 
 unfoldable pub D : List Step
 unfolding fetches turnedAway
-D = fetches 16383 1 1 0 unsaid ∷ turnedAway 16384 1 9 (are (16383 ∔ 1 ∷ [])) ∷ []
+D = fetches 16383 1 1 0 unsaid ∷ turnedAway 16384 1 9 (is (16383 ∔ 1 ∷ [])) ∷ []
 
 unfoldable pub E : List Step
 unfolding fetches turnedAway
-E = fetches 0 4096 4096 0 unsaid ∷ turnedAway 4096 1 23 (are (0 ∔ 4096 ∷ [])) ∷ fetches 0 4096 0 4096 (are (0 ∔ 4096 ∷ [])) ∷ []
+E = fetches 0 4096 4096 0 unsaid ∷ turnedAway 4096 1 23 (is (0 ∔ 4096 ∷ [])) ∷ fetches 0 4096 0 4096 (is (0 ∔ 4096 ∷ [])) ∷ []
 
 -- the records at the even addresses from 2 × i on, n of them
 evens : ℕ → ℕ → List Record
@@ -72,22 +72,26 @@ unfoldable pub F : List Step
 unfolding fetches turnedAway evens span
 F =
     map (λ k. fetches (2 * k) 1 1 0 unsaid) (span 0 64)
-    ++ turnedAway 128 1 24 (are (evens 0 64)) ∷ fetches 0 3 1 2 (are (0 ∔ 3 ∷ evens 2 62)) ∷ []
+    ++ turnedAway 128 1 24 (is (evens 0 64)) ∷ fetches 0 3 1 2 (is (0 ∔ 3 ∷ evens 2 62)) ∷ []
 
 unfoldable pub G : List Step
-G = record { call = begin 0; answer = refused 22; bytes = []; records = are [] } ∷ []
+G = record { call = begin 0; answer = refused 22; bytes = []; records = is []; window = unsaid } ∷ []
 
 unfoldable pub H : List Step
 unfolding turnedAway
-H = turnedAway 0 4097 4 (are []) ∷ []
+H = turnedAway 0 4097 4 (is []) ∷ []
 
--- the own write changes the window, and the command still gets the old bytes
+-- the window after an own write of two bytes at 16, and the command still gets the old ones
+written : List ℕ
+unfolding bytesOf
+written = bytesOf 0 16 ++ 201 ∷ 202 ∷ bytesOf 18 16366
+
 unfoldable pub J : List Step
-unfolding fetches bytesOf window dest
+unfolding fetches bytesOf window dest written
 J =
-    fetches 16 2 2 0 (are (16 ∔ 2 ∷ []))
-    ∷ record { call = ownWrite 0 16 (201 ∷ 202 ∷ []) window; answer = replied (2 ∷ []); bytes = []; records = are (16 ∔ 2 ∷ []) }
-    ∷ record { call = fetch 0 16 2 dest (overwrite window 16 (201 ∷ 202 ∷ [])); answer = replied (0 ∷ 2 ∷ []); bytes = 16 ∷ 17 ∷ []; records = are (16 ∔ 2 ∷ []) }
+    fetches 16 2 2 0 (is (16 ∔ 2 ∷ []))
+    ∷ record { call = ownWrite 0 16 (201 ∷ 202 ∷ []) window; answer = replied (2 ∷ []); bytes = []; records = is (16 ∔ 2 ∷ []); window = is written }
+    ∷ record { call = fetch 0 16 2 dest written; answer = replied (0 ∷ 2 ∷ []); bytes = 16 ∷ 17 ∷ []; records = is (16 ∔ 2 ∷ []); window = unsaid }
     ∷ []
 
 unfoldable pub situations : List (List Step)

@@ -1,4 +1,5 @@
--- How a situation is written down and tested: calls, each with the answer, the delivered bytes and the records that it must give.
+-- How a situation is written down and tested: calls, each with the answer and the delivered bytes that it must give, and with the
+-- records of command 0 and the window after it where 01 speaks of them.
 use Prim.Native.Nat.{ℕ}
 use mathlib.Core.List.{List, [], _∷_}
 use mathlib.Core.Bool.{Bool, true, false, _&&_}
@@ -10,19 +11,20 @@ use Rattle.state.specs.State.{recordsOf, ascending, commandHolds, holds}
 use Rattle.state.specs.Verdict.{Reply, refused, replied, accepted, verdict}
 use Rattle.cache.specs.Begin.{beginSays, beginState, beginStore}
 use Rattle.cache.specs.Fetch.{fetchSays, fetchState, fetchStore, fetchDest}
-use Rattle.cache.specs.OwnWrite.{ownSays}
-use Rattle.history.specs.Runs.{Call, Machine, says, after, delivers}
+use Rattle.cache.specs.OwnWrite.{ownSays, ownWindow}
+use Rattle.history.specs.Runs.{Call, Machine, says, after, windowAfter, delivers}
 
--- the records of command 0 after a step, where 01 names them
-pub data Records : Type 0 where
-  unsaid : Records
-  are : List Record → Records
+-- what must be so after a step, or nothing said of it
+pub data Expected (A : Type 0) : Type 0 where
+  unsaid : Expected A
+  is : A → Expected A
 
 pub record Step : Type 0 where
   pub call : Call
   pub answer : Reply
   pub bytes : List ℕ
-  pub records : Records
+  pub records : Expected (List Record)
+  pub window : Expected (List ℕ)
 
 unfoldable pub sameNumbers : List ℕ → List ℕ → Bool
 sameNumbers [] [] = true
@@ -37,18 +39,21 @@ sameAnswer (refused m) (replied ns) = false
 sameAnswer (replied ms) (refused n) = false
 sameAnswer (replied ms) (replied ns) = sameNumbers ms ns
 
-unfoldable pub sameRecords : Records → List Record → Bool
-sameRecords unsaid rs = true
-sameRecords (are []) [] = true
-sameRecords (are []) (s ∷ ss) = false
-sameRecords (are (r ∷ rs)) [] = false
-sameRecords (are (r ∷ rs)) (s ∷ ss) = eqb (r .start) (s .start) && eqb (r .len) (s .len) && sameRecords (are rs) ss
+unfoldable pub sameRecords : List Record → List Record → Bool
+sameRecords [] [] = true
+sameRecords [] (s ∷ ss) = false
+sameRecords (r ∷ rs) [] = false
+sameRecords (r ∷ rs) (s ∷ ss) = eqb (r .start) (s .start) && eqb (r .len) (s .len) && sameRecords rs ss
+
+unfoldable pub asExpected : {A : Type 0} → (A → A → Bool) → Expected A → A → Bool
+asExpected same unsaid x = true
+asExpected same (is y) x = same y x
 
 -- does each step give what it must, the machine handed on from one to the next?
 unfoldable pub passes : Machine → List Step → Bool
-unfolding sameNumbers sameAnswer sameRecords beginSays beginState beginStore fetchSays fetchState fetchStore fetchDest ownSays accepted verdict all ascending commandHolds holds total held span countFresh keep lowest highest joined addresses place
+unfolding sameNumbers sameAnswer sameRecords asExpected ownWindow beginSays beginState beginStore fetchSays fetchState fetchStore fetchDest ownSays accepted verdict all ascending commandHolds holds total held span countFresh keep lowest highest joined addresses place
 passes m [] = true
 passes m (t ∷ ts) =
     let next = after m (t .call) in
-    sameAnswer (t .answer) (says m (t .call)) && sameNumbers (t .bytes) (delivers m (t .call)) && sameRecords (t .records) (recordsOf (next .state) 0)
-    && passes next ts
+    sameAnswer (t .answer) (says m (t .call)) && sameNumbers (t .bytes) (delivers m (t .call)) && asExpected sameRecords (t .records) (recordsOf (next .state) 0)
+    && asExpected sameNumbers (t .window) (windowAfter m (t .call)) && passes next ts

@@ -5,10 +5,10 @@ use mathlib.Core.Path.{_≡_, refl, sym, ap, ap₂, _∙_}
 use mathlib.Core.Logic.{_≢_}
 use mathlib.Core.List.{List, [], _∷_, _++_}
 use mathlib.Core.Bool.{Bool, true, false, false≢true, _&&_, _||_}
-use lib.Dec.{leb, eqb}
-use lib.ListN.{length, take, drop, replicate, length-set, length-append, length-replicate, length-drop, take-append-drop}
+use lib.Dec.{ltb, leb, eqb}
+use lib.ListN.{length, drop, replicate, length-set, length-append, length-replicate, length-drop, take-append-drop, List·getD-eq-default}
 use lib.Seq.{getD-set-same, getD-set-other, take-append-seam, drop-append-seam, length-take-le, set-getD}
-use borrow.Author.Tests.{leb-true, le-leb, eqb-true, eq-eqb}
+use borrow.Author.Tests.{ltb-true, ltb-false, leb-true, le-leb, eqb-true, eq-eqb}
 use Rattle.octets.specs.Lists.{all}
 use Rattle.octets.proofs.Lists.{both, and-left, and-right, all-at, all-set, all-replicate}
 use Rattle.state.specs.declared.Record.{Record}
@@ -93,6 +93,16 @@ eight s h = eqb-true _ _ (and-left (eqb (length (s .commands)) commandLimit) _ h
 pub sixty-four : (s : CacheState) (c : ℕ) → hasShape s ≡ true → length (commandOf s c .records) ≡ recordLimit
 sixty-four s c h =
     eqb-true _ _ (all-at (λ p. eqb (length (p .records)) recordLimit) (s .commands) c closed (and-right (eqb (length (s .commands)) commandLimit) _ h) refl)
+
+-- there is no open command beyond the last
+pub open-below : (s : CacheState) (c : ℕ) → hasShape s ≡ true → commandOf s c .opened ≡ true → c < commandLimit
+open-below s c shape o = go (ltb c commandLimit) refl
+  where
+    go : (b : Bool) → ltb c commandLimit ≡ b → c < commandLimit
+    go true e = ltb-true _ _ e
+    go false e =
+        let beyond : length (s .commands) ≤ c = omega (arith, eight s shape, ltb-false c commandLimit e) in
+        absurd (false≢true (sym (ap (λ (p : CommandState). p .opened) (List·getD-eq-default (s .commands) closed beyond)) ∙ o))
 
 pub shape-with : (s : CacheState) (c : ℕ) (next : CommandState) → hasShape s ≡ true → length (next .records) ≡ recordLimit → hasShape (withCommand s c next) ≡ true
 shape-with s c next h k =

@@ -1,7 +1,7 @@
 -- The rules of records on small numbers. The first three joins are those of 01's situations A and B.
 use Prim.Native.Nat.{ℕ}
 use mathlib.Core.Path.{_≡_, refl}
-use mathlib.Core.List.{List, [], _∷_}
+use mathlib.Core.List.{[], _∷_}
 use mathlib.Core.Bool.{true, false}
 use Rattle.state.specs.declared.Record.{Record}
 use Rattle.state.specs.Records.{held, span, addresses, total, place, countFresh, fresh, keep, lowest, highest, joined}

@@ -2,7 +2,7 @@
 -- (01, "The book and the store" and the rule of fetch).
 use Prim.Native.Nat.{ℕ, zero, suc, _+_, _-_, min, max}
 use mathlib.Core.List.{List, [], _∷_, _++_}
-use mathlib.Core.Bool.{Bool, true, false, cond, _&&_, _||_}
+use mathlib.Core.Bool.{Bool, false, cond, _&&_, _||_}
 use lib.Dec.{ltb, leb}
 use Rattle.state.specs.declared.Record.{Record}
 
