@@ -1,9 +1,10 @@
--- Laws of tests and of lists: both of two tests, a test on every element, equal heads and tails, an element of two lists put together.
-use Prim.Native.Nat.{ℕ, zero, suc, _+_}
-use mathlib.Core.Path.{_≡_, refl, subst}
+-- Laws of tests and of lists: both of two tests, a test on every element, equal heads and tails, an element of two lists put together, as many elements as there are.
+use Prim.Native.Nat.{ℕ, zero, suc, _+_, min}
+use native.Mathlib.Nat.{zero-min, min-zero, suc-min-suc}
+use mathlib.Core.Path.{_≡_, refl, ap, subst}
 use mathlib.Core.List.{List, [], _∷_, _++_}
 use mathlib.Core.Bool.{Bool, true, false, _&&_}
-use lib.ListN.{length, getD, replicate, set}
+use lib.ListN.{length, take, getD, replicate, set}
 use lib.Seq.{getD-append-add}
 use Rattle.octets.specs.Lists.{all}
 
@@ -52,3 +53,9 @@ module _ {A : Type 0} where
   getD-same zero i a = refl
   getD-same (suc n) zero a = refl
   getD-same (suc n) (suc i) a = getD-same n i a
+
+  -- for a count that a loop bounds by the length: no more is taken than there is
+  pub take-min : (n : ℕ) (l : List A) → take (min n (length l)) l ≡ take n l
+  take-min zero l = rw zero-min
+  take-min (suc n) [] = rw min-zero
+  take-min (suc n) (x ∷ xs) = rw suc-min-suc (ap (λ (l : List A). x ∷ l) (take-min n xs))

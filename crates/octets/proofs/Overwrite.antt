@@ -1,13 +1,13 @@
--- Laws of overwrite: the length stays, and an element is one of the bytes or, outside their place, the buffer's own.
-use Prim.Native.Nat.{ℕ, _+_, _-_, _≤_, _<_}
+-- Laws of overwrite: the length stays, and an element is one of the bytes or, outside their place, the buffer's own; and what loops and lent parts make of it.
+use Prim.Native.Nat.{ℕ, suc, _+_, _-_, _≤_, _<_, min}
 use native.Mathlib.Omega.{arith}
 use native.Mathlib.Nat.{zero-add, add-zero}
 use mathlib.Core.Path.{_≡_, ap, subst, _∙_}
-use mathlib.Core.List.{List, [], _++_, append-nil, append-assoc}
-use lib.ListN.{length, take, drop, getD, length-append, length-take, length-drop, take-append-drop, List·getD-append}
-use lib.Seq.{length-take-le, take-at, drop-at, take-add, getD-take, getD-drop, ext-getD}
+use mathlib.Core.List.{List, [], _∷_, _++_, append-nil, append-assoc}
+use lib.ListN.{length, take, drop, getD, set, length-append, length-take, length-drop, take-append-drop, List·getD-append}
+use lib.Seq.{length-take-le, take-at, drop-at, take-add, take-suc, drop-drop, drop-append-le, set-at, paste, getD-take, getD-drop, ext-getD}
 use Rattle.octets.specs.Lists.{overwrite, part}
-use Rattle.octets.proofs.Lists.{getD-past}
+use Rattle.octets.proofs.Lists.{getD-past, take-min}
 
 -- what stands in the buffer already may be written again, and no bytes leave the buffer as it was
 pub overwrite-same : (buffer : List ℕ) (at n : ℕ) → at + n ≤ length buffer → overwrite buffer at (part buffer at n) ≡ buffer
@@ -74,3 +74,21 @@ module _ (buffer bytes : List ℕ) (n : ℕ) (size : length bytes ≡ n) where
 
   pub overwrite-rest : drop n (overwrite buffer 0 bytes) ≡ drop n buffer
   overwrite-rest = drop-at bytes _ n size ∙ ap (λ (k : ℕ). drop k buffer) (zero-add (length bytes) ∙ size)
+
+-- for a loop that copies: as much of the source as there is room for
+pub overwrite-paste : (buffer source : List ℕ) (at room : ℕ) → paste buffer at source (min room (length source)) ≡ overwrite buffer at (take room source)
+overwrite-paste buffer source at room = rw (take-min, ← length-take room source)
+
+-- for a part that was lent: what is written to its front is written to the whole
+pub overwrite-lent : (buffer bytes : List ℕ) (at n : ℕ) → length bytes ≤ length (part buffer at n)
+    → take at buffer ++ (overwrite (part buffer at n) 0 bytes ++ drop n (drop at buffer)) ≡ overwrite buffer at bytes
+overwrite-lent buffer bytes at n fits =
+    rw (zero-add, append-assoc bytes, ← drop-append-le (length bytes) (part buffer at n) (drop n (drop at buffer)) fits, take-append-drop, drop-drop, append-assoc)
+
+-- for a loop from the top down: one more byte, just before those that are written
+pub overwrite-more : (buffer bytes : List ℕ) (at x : ℕ) → at < length buffer → set (overwrite buffer (suc at) bytes) at x ≡ overwrite buffer at (x ∷ bytes)
+overwrite-more buffer bytes at x inside =
+    let rest = drop (suc at + length bytes) buffer in
+    let next : suc at + length bytes ≡ at + suc (length bytes) = omega arith in
+    simp (take-suc buffer at 0 inside, append-assoc)
+    (set-at (take at buffer) (getD buffer at 0) (bytes ++ rest) x at (length-take-le at buffer (omega arith)) ∙ rw next)

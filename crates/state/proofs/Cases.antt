@@ -1,6 +1,8 @@
 -- Case analysis for the records: where a record stands to a span, and what an ascending list says of its first record.
 use Prim.Native.Nat.{ℕ, _≤_, _<_}
+use native.Mathlib.Omega.{arith}
 use mathlib.Core.Path.{_≡_, refl}
+use mathlib.Core.Logic.{_≢_}
 use mathlib.Core.List.{List, _∷_}
 use mathlib.Core.Bool.{Bool, true, false, and-eq-true-iff, and-false}
 use native.Mathlib.Nat.{lt-of-not-le, not-le-of-lt}
@@ -8,6 +10,7 @@ use lib.Dec.{leb}
 use borrow.Author.Tests.{ltb-true, leb-true, leb-false, lt-ltb, le-ltb, le-leb, lt-leb}
 use Rattle.state.specs.declared.Record.{Record}
 use Rattle.octets.proofs.Lists.{both}
+use Rattle.state.specs.Limits.{windowLimit}
 use Rattle.state.specs.Records.{past, inSpan}
 use Rattle.state.specs.State.{ascending}
 
@@ -63,3 +66,21 @@ below r x h = rw (lt-leb (r .start) x h)
 
 pub above : (r : Record) (x : ℕ) → past r ≤ x → inSpan (r .start) (r .len) x ≡ false
 above r x h = rw (le-ltb x (past r) h, and-false)
+
+-- an ascending list told record by record: what fails at its first, or that the rest decides
+module _ (lo : ℕ) (r : Record) (rs : List Record) where
+  pub ascending-low : r .start < lo → ascending lo (r ∷ rs) ≡ false
+  unfolding ascending
+  ascending-low h = rw (lt-leb lo (r .start) h)
+
+  pub ascending-empty : past r ≡ r .start → ascending lo (r ∷ rs) ≡ false
+  unfolding ascending
+  ascending-empty h = rw (le-ltb 0 (r .len) (omega arith), and-false)
+
+  pub ascending-far : windowLimit < past r → ascending lo (r ∷ rs) ≡ false
+  unfolding ascending
+  ascending-far h = rw (lt-leb (past r) windowLimit h, and-false)
+
+  pub ascending-next : lo ≤ r .start → past r ≢ r .start → past r ≤ windowLimit → ascending lo (r ∷ rs) ≡ ascending (past r) rs
+  unfolding ascending
+  ascending-next h k l = rw (le-leb lo (r .start) h, lt-ltb 0 (r .len) (omega arith), le-leb (past r) windowLimit l)

@@ -4,11 +4,11 @@ use native.Mathlib.Omega.{arith}
 use mathlib.Core.Path.{_≡_, refl, sym, ap, ap₂, _∙_}
 use mathlib.Core.Logic.{_≢_}
 use mathlib.Core.List.{List, [], _∷_, _++_}
-use mathlib.Core.Bool.{Bool, true, false, false≢true, _&&_, _||_}
+use mathlib.Core.Bool.{Bool, true, false, false≢true, _&&_, _||_, and-false}
 use lib.Dec.{ltb, leb, eqb}
 use lib.ListN.{length, drop, replicate, length-set, length-append, length-replicate, length-drop, take-append-drop, List·getD-eq-default}
 use lib.Seq.{getD-set-same, getD-set-other, take-append-seam, drop-append-seam, length-take-le, set-getD}
-use borrow.Author.Tests.{ltb-true, ltb-false, leb-true, le-leb, eqb-true, eq-eqb}
+use borrow.Author.Tests.{ltb-true, ltb-false, leb-true, le-leb, lt-leb, eqb-true, eq-eqb}
 use Rattle.octets.specs.Lists.{all}
 use Rattle.octets.proofs.Lists.{both, and-left, and-right, all-at, all-set, all-replicate}
 use Rattle.state.specs.declared.Record.{Record}
@@ -135,3 +135,28 @@ open-with-own s c shape whole opened =
     ap (λ (l : List Record). recordsIn p ++ l) (sym (zero-records (drop (p .count) (p .records)) (K .unused) ∙ ap (λ (k : ℕ). replicate k noRecord) back))
     ∙ take-append-drop (p .count) (p .records) in
     λ i. record { opened = sym opened i; count = front i; records = all-of-it i }
+
+-- A command told check by check: what fails first, or that the last test decides.
+
+module _ (p : CommandState) where
+  pub too-many : recordLimit < p .count → commandHolds p ≡ false
+  unfolding commandHolds
+  too-many h = rw (lt-leb (p .count) recordLimit h)
+
+  pub not-ascending : ascending 0 (recordsIn p) ≡ false → commandHolds p ≡ false
+  unfolding commandHolds
+  not-ascending h = rw (h, and-false)
+
+  pub too-large : heldLimit < total (recordsIn p) → commandHolds p ≡ false
+  unfolding commandHolds
+  too-large h = rw (lt-leb (total (recordsIn p)) heldLimit h, and-false)
+
+  pub not-zero : all isZero (drop (p .count) (p .records)) ≡ false → commandHolds p ≡ false
+  unfolding commandHolds
+  not-zero h = rw (h, and-false)
+
+  pub all-but-open :
+      p .count ≤ recordLimit → ascending 0 (recordsIn p) ≡ true → total (recordsIn p) ≤ heldLimit → all isZero (drop (p .count) (p .records)) ≡ true
+      → commandHolds p ≡ (p .opened || eqb (p .count) 0)
+  unfolding commandHolds
+  all-but-open few up small unused = rw (le-leb (p .count) recordLimit few, up, le-leb (total (recordsIn p)) heldLimit small, unused)

@@ -13,7 +13,7 @@ use Rattle.state.specs.declared.Record.{Record}
 use Rattle.state.specs.Records.{past, inSpan, held, span, addresses, total, place, countFresh, fresh, shares, joined}
 use Rattle.state.specs.State.{ascending}
 use Rattle.state.proofs.Cases.{Side, before, meets, after, side, Ascends, ascends, inside, below, above}
-use Rattle.state.proofs.Join.{merged, held-merged, ascending-merged, total-merged}
+use Rattle.state.proofs.Merge.{merged, held-merged, ascending-merged, total-merged}
 use Rattle.state.proofs.Places.{place-all, place-low, held-low, place-grows, fresh-place, span-at, span-past, map-span, map-read, length-span}
 
 -- an address is held after a span is joined exactly if it was, or is in the span

@@ -1,7 +1,10 @@
 pub mod Worked
 pub mod Cases
 pub mod Places
-pub mod Join
+pub mod Merge
 pub mod Laws
 pub mod Commands
 pub mod Verdict
+pub mod Walk
+pub mod Search
+pub mod Splice

@@ -78,7 +78,7 @@ unfolding span
 length-span a zero = refl
 length-span a (suc n) = ap suc (length-span (suc a) n)
 
-pub span-at : (f : ℕ → ℕ) (d a n : ℕ) (rest : List ℕ) (i : ℕ) → i < n → getD (map f (span a n ++ rest)) i d ≡ f (a + i)
+pub span-at : {A : Type 0} (f : ℕ → A) (d : A) (a n : ℕ) (rest : List ℕ) (i : ℕ) → i < n → getD (map f (span a n ++ rest)) i d ≡ f (a + i)
 unfolding span
 span-at f d a zero rest i h = absurd (not-suc-le-zero h)
 span-at f d a (suc n) rest zero h = rw add-zero

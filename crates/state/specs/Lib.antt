@@ -1,6 +1,8 @@
 pub mod Limits
 pub mod Records
 pub mod State
+pub mod Join
+pub mod Bounds
 pub mod Refusals
 pub mod Verdict
 pub mod Checks

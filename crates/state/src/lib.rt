@@ -3,8 +3,12 @@ ghost use mathlib.Core.Path.{_≡_};
 ghost use Rattle.state.specs.Limits.{limits};
 ghost use Rattle.state.specs.State.{freshState};
 
+mod holds;
+mod join;
 mod refusal;
 
+pub use join::Join;
+pub use join::Meeting;
 pub use refusal::Refusal;
 
 // A run of held addresses. An address is below 65,536 and a record holds at most 4,096 bytes, so 16 bits serve for both.

@@ -1,0 +1,54 @@
+-- The search for the records that meet a span, and the records that it leaves, as the code computes them. The laws in proofs/ say
+-- what they are for records that ascend: the search finds just the records that share a byte with the span, and the rest is
+-- `joined`.
+use Prim.Native.Nat.{ℕ, suc, _+_, _-_, _%_, min, max}
+use mathlib.Core.List.{List, [], _∷_, map}
+use mathlib.Core.Bool.{true, false, cond}
+use lib.Dec.{ltb, leb, eqb}
+use lib.ListN.{length, getD}
+use Rattle.state.specs.declared.Record.{Record}
+use Rattle.state.specs.declared.CommandState.{CommandState}
+use Rattle.state.specs.declared.join.Meeting.{Meeting}
+use Rattle.state.specs.declared.join.Join.{Join}
+use Rattle.state.specs.Limits.{recordLimit}
+use Rattle.state.specs.Records.{past, span}
+use Rattle.state.specs.State.{noRecord, recordsIn}
+
+-- a record that starts before the span's end lies before the span, or meets it and widens the union
+unfoldable pub passed : ℕ → Record → Meeting → Meeting
+passed a r m =
+    cond (leb (past r) a)
+    (record { first = m .first + 1; last = m .last + 1; low = m .low; high = m .high; below = m .below + r .len; held = m .held })
+    (record { first = m .first; last = m .last + 1; low = min (r .start) (m .low); high = max (past r) (m .high); below = m .below; held = m .held + r .len })
+
+-- the search stops at the first record that starts at the span's end or above it
+unfoldable pub searched : (a e : ℕ) → List Record → Meeting → Meeting
+searched a e [] m = m
+searched a e (r ∷ rs) m = elim (leb e (r .start)) [ true ↦ m | false ↦ searched a e rs (passed a r m) ]
+
+-- nothing looked at yet
+abbrev pub unmet : (a e : ℕ) → Meeting
+unmet a e = record { first = 0; last = 0; low = a; high = e; below = 0; held = 0 }
+
+unfoldable pub meeting : List Record → (a e : ℕ) → Meeting
+meeting rs a e = searched a e rs (unmet a e)
+
+-- The entries of a command after the union has taken the place of the records that were met. Numbers are taken modulo 65,536, as
+-- a field of 16 bits holds them.
+abbrev pub unionOf : Meeting → Record
+unionOf m = record { start = m .low % 65536; len = (m .high - m .low) % 65536 }
+
+unfoldable pub entryAfter : List Record → Meeting → ℕ → Record
+entryAfter entries m k =
+    cond (ltb k (m .first)) (getD entries k noRecord)
+    (cond (eqb k (m .first)) (unionOf m) (getD entries (m .last + (k - suc (m .first))) noRecord))
+
+unfoldable pub spliced : CommandState → Meeting → CommandState
+spliced p m = record {
+  opened = p .opened;
+  count = m .first + 1 + (length (recordsIn p) - m .last);
+  records = map (entryAfter (p .records) m) (span 0 recordLimit);
+}
+
+unfoldable pub join : CommandState → (a e : ℕ) → Join
+join p a e = record { meeting = meeting (recordsIn p) a e; command = spliced p (meeting (recordsIn p) a e) }

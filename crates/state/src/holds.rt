@@ -1,0 +1,131 @@
+// Whether a state holds together, for any value of the types.
+ghost use mathlib.Core.Path.{_≡_};
+ghost use Prim.Native.Nat.{_<_, _≤_};
+ghost use lib.ListN.{length, drop};
+ghost use Rattle.octets.specs.Lists.{all};
+ghost use Rattle.state.specs.Limits.{recordLimit};
+ghost use Rattle.state.specs.Records.{total};
+ghost use Rattle.state.specs.State.{recordsIn, ascending, isZero, commandHolds, holds};
+use super::CacheState;
+use super::CommandState;
+
+// A field of a record, widened.
+pub(crate) fn wide(x: u16) -> usize
+    ensures { λ r. ⌜ (r ≡ x) × (r < 65536) ⌝ }
+{
+    x as usize
+}
+
+impl CommandState {
+    // How many entries are records.
+    pub fn used(self) -> usize
+        ensures { λ r. ⌜ (r ≡ length (recordsIn self)) × (r ≤ recordLimit) ⌝ }
+    {
+        let count = self.count;
+        if count < CacheState::RECORDS {
+            count
+        } else {
+            CacheState::RECORDS
+        }
+    }
+
+    // How many distinct bytes the records from `from` on hold.
+    pub fn held_from(self, from: usize) -> usize
+        ensures { λ r. ⌜ r ≡ total (drop from (recordsIn self)) ⌝ }
+    {
+        let used = self.used();
+        let mut sum = 0;
+        let mut i = from;
+        while i < used {
+            let r = self.records[i];
+            sum = sum + wide(r.len);
+            i = i + 1;
+        }
+        sum
+    }
+
+    // Whether each record starts behind the one before it, is not empty, and ends where addresses do.
+    fn in_order(self) -> bool
+        ensures { λ r. ⌜ r ≡ ascending 0 (recordsIn self) ⌝ }
+    {
+        let used = self.used();
+        let mut low = 0;
+        let mut i = 0;
+        while i < used {
+            let r = self.records[i];
+            let start = wide(r.start);
+            let past = start + wide(r.len);
+            if start < low {
+                return false;
+            }
+            if past == start {
+                return false;
+            }
+            if CacheState::WINDOW < past {
+                return false;
+            }
+            low = past;
+            i = i + 1;
+        }
+        true
+    }
+
+    // Whether the entries behind the records are zero.
+    fn unused_zero(self) -> bool
+        ensures { λ r. ⌜ r ≡ all isZero (drop (self .count) (self .records)) ⌝ }
+    {
+        let mut i = self.count;
+        while i < CacheState::RECORDS {
+            let r = self.records[i];
+            if wide(r.start) != 0 {
+                return false;
+            }
+            if wide(r.len) != 0 {
+                return false;
+            }
+            i = i + 1;
+        }
+        true
+    }
+
+    // Whether the command keeps to every rule.
+    pub fn holds(self) -> bool
+        ensures { λ r. ⌜ r ≡ commandHolds self ⌝ }
+    {
+        let count = self.count;
+        if CacheState::RECORDS < count {
+            return false;
+        }
+        if !self.in_order() {
+            return false;
+        }
+        if CacheState::HELD < self.held_from(0) {
+            return false;
+        }
+        if !self.unused_zero() {
+            return false;
+        }
+        let opened = self.opened;
+        if opened {
+            return true;
+        }
+        count == 0
+    }
+}
+
+impl CacheState {
+    // Whether every command does.
+    pub fn holds(self) -> bool
+        ensures { λ r. ⌜ r ≡ holds self ⌝ }
+    {
+        let mut c = 0;
+        while c < CacheState::COMMANDS {
+            let command = self.commands[c];
+            if !command.holds() {
+                return false;
+            }
+            c = c + 1;
+        }
+        true
+    }
+}

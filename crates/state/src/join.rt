@@ -1,0 +1,133 @@
+// The records that meet a span, found by one search from the lowest start upward, and the records after the span is joined.
+ghost use mathlib.Core.Path.{_≡_};
+ghost use Prim.Native.Nat.{_≤_, _<_};
+ghost use lib.ListN.{length};
+ghost use Rattle.state.specs.Limits.{recordLimit};
+ghost use Rattle.state.specs.State.{recordsIn};
+ghost use Rattle.state.specs.Join.{passed, meeting, entryAfter, spliced, join};
+ghost use Rattle.state.specs.Bounds.{Counted, Passed};
+use super::CacheState;
+use super::CommandState;
+use super::Record;
+use super::holds::wide;
+
+// How a span lies among the records of a command. It meets those from `first` up to `last`, which together with the span
+// reach from `low` up to `high`. The records before them hold `below` bytes, and those that are met hold `held`.
+pub struct Meeting {
+    pub first: usize,
+    pub last: usize,
+    pub low: usize,
+    pub high: usize,
+    pub below: usize,
+    pub held: usize,
+}
+
+// What joining a span gives: how it met the records, and the command with them joined.
+pub struct Join {
+    pub meeting: Meeting,
+    pub command: CommandState,
+}
+
+// The search goes on past a record that starts before the span's end: it lies before the span, or meets it.
+fn pass(m: Meeting, r: Record, address: usize) -> Meeting
+    requires { ⌜ Counted m 63 ⌝ }
+    ensures { λ n. ⌜ Passed m r address n ⌝ }
+{
+    let start = wide(r.start);
+    let len = wide(r.len);
+    let past = start + len;
+    if past <= address {
+        return Meeting {
+            first: m.first + 1,
+            last: m.last + 1,
+            low: m.low,
+            high: m.high,
+            below: m.below + len,
+            held: m.held,
+        };
+    }
+    Meeting {
+        first: m.first,
+        last: m.last + 1,
+        low: octets::lesser(start, m.low),
+        high: octets::greater(past, m.high),
+        below: m.below,
+        held: m.held + len,
+    }
+}
+
+impl CommandState {
+    // How the span from `address` up to `end` lies among the records.
+    pub fn meeting(self, address: usize, end: usize) -> Meeting
+        ensures { λ r. ⌜ r ≡ meeting (recordsIn self) address end ⌝ }
+    {
+        let used = self.used();
+        let mut m = Meeting {
+            first: 0,
+            last: 0,
+            low: address,
+            high: end,
+            below: 0,
+            held: 0,
+        };
+        let mut i = 0;
+        while i < used {
+            let r = self.records[i];
+            if end <= wide(r.start) {
+                return m;
+            }
+            m = pass(m, r, address);
+            i = i + 1;
+        }
+        m
+    }
+
+    // The entry at k after the union has taken the place of the records that were met.
+    fn entry_after(self, m: Meeting, k: usize) -> Record
+        requires { ⌜ (m .last ≤ recordLimit) × (k < recordLimit) ⌝ }
+        ensures { λ r. ⌜ r ≡ entryAfter (self .records) m k ⌝ }
+    {
+        let first = m.first;
+        if k < first {
+            return self.records[k];
+        }
+        if k == first {
+            let size = octets::minus(m.high, m.low);
+            return Record {
+                start: (m.low % 65536) as u16,
+                len: (size % 65536) as u16,
+            };
+        }
+        let at = m.last + (k - first - 1);
+        if at < CacheState::RECORDS {
+            return self.records[at];
+        }
+        Record { start: 0, len: 0 }
+    }
+
+    // The command with the union in the place of the records that were met.
+    fn spliced(self, m: Meeting) -> CommandState
+        requires { ⌜ (m .first ≤ m .last) × (m .last ≤ length (recordsIn self)) ⌝ }
+        ensures { λ r. ⌜ r ≡ spliced self m ⌝ }
+    {
+        let used = self.used();
+        let mut next = self;
+        let mut k = 0;
+        while k < CacheState::RECORDS {
+            let r = self.entry_after(m, k);
+            next.records[k] = r;
+            k = k + 1;
+        }
+        next.count = m.first + 1 + (used - m.last);
+        next
+    }
+
+    // The span from `address` up to `end` joined with the records.
+    pub fn join(self, address: usize, end: usize) -> Join
+        ensures { λ r. ⌜ r ≡ join self address end ⌝ }
+    {
+        let meeting = self.meeting(address, end);
+        let command = self.spliced(meeting);
+        Join { meeting, command }
+    }
+}
