@@ -60,7 +60,7 @@ pub record Kept (p : CommandState) : Type 0 where
   pub small : total (recordsIn p) ≤ heldLimit
   pub unused : all isZero (drop (p .count) (p .records)) ≡ true
 
-kept-command : (p : CommandState) → commandHolds p ≡ true → Kept p
+pub kept-command : (p : CommandState) → commandHolds p ≡ true → Kept p
 unfolding commandHolds
 kept-command p h =
     let few = leb (p .count) recordLimit in
@@ -123,18 +123,22 @@ unfolding all
 zero-records [] h = refl
 zero-records (r ∷ rs) h = ap₂ _∷_ (zero-record r (and-left (isZero r) (all isZero rs) h)) (zero-records rs (and-right (isZero r) (all isZero rs) h))
 
--- an open command is its records, with the unused entries behind them
+-- the entries of a command that holds together are its records, with the unused entries behind them
+pub open-with-padded : (p : CommandState) → Kept p → length (p .records) ≡ recordLimit → p .records ≡ recordsIn p ++ replicate (recordLimit - length (recordsIn p)) noRecord
+open-with-padded p K size =
+    let front : length (recordsIn p) ≡ p .count = length-take-le (p .count) (p .records) (omega arith) in
+    let back : length (drop (p .count) (p .records)) ≡ recordLimit - length (recordsIn p) = simp (length-drop, size, front) in
+    sym (take-append-drop (p .count) (p .records))
+    ∙ ap (λ (l : List Record). recordsIn p ++ l) (zero-records (drop (p .count) (p .records)) (K .unused) ∙ ap (λ (k : ℕ). replicate k noRecord) back)
+
+-- an open command is its records
 pub open-with-own : (s : CacheState) (c : ℕ) → hasShape s ≡ true → holds s ≡ true → commandOf s c .opened ≡ true → open-with (recordsOf s c) ≡ commandOf s c
 open-with-own s c shape whole opened =
     let p = commandOf s c in
     let K = kept s c whole in
     let size = sixty-four s c shape in
     let front : length (recordsIn p) ≡ p .count = length-take-le (p .count) (p .records) (omega arith) in
-    let back : length (drop (p .count) (p .records)) ≡ recordLimit - length (recordsIn p) = simp (length-drop, size, front) in
-    let all-of-it : recordsIn p ++ replicate (recordLimit - length (recordsIn p)) noRecord ≡ p .records =
-    ap (λ (l : List Record). recordsIn p ++ l) (sym (zero-records (drop (p .count) (p .records)) (K .unused) ∙ ap (λ (k : ℕ). replicate k noRecord) back))
-    ∙ take-append-drop (p .count) (p .records) in
-    λ i. record { opened = sym opened i; count = front i; records = all-of-it i }
+    λ i. record { opened = sym opened i; count = front i; records = sym (open-with-padded p K size) i }
 
 -- A command told check by check: what fails first, or that the last test decides.
 

@@ -8,3 +8,6 @@ pub mod Verdict
 pub mod Walk
 pub mod Search
 pub mod Splice
+pub mod Found
+pub mod Entries
+pub mod Packed

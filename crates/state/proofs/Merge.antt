@@ -91,26 +91,26 @@ pub record Reach (a e lo l h : ℕ) : Type 0 where
 
 module _ (a e : ℕ) (wide : a < e) where
   -- the clauses of a walk over the records: none is left, the first is before the span, or it meets the span and widens the union
-  merged-nil : (l h : ℕ) → merged a e [] l h ≡ between l h ∷ []
+  pub merged-nil : (l h : ℕ) → merged a e [] l h ≡ between l h ∷ []
   unfolding merged keep lowest highest
   merged-nil l h = refl
 
-  merged-before : (r : Record) (rs : List Record) (l h : ℕ) → past r ≤ a → merged a e (r ∷ rs) l h ≡ r ∷ merged a e rs l h
+  pub merged-before : (r : Record) (rs : List Record) (l h : ℕ) → past r ≤ a → merged a e (r ∷ rs) l h ≡ r ∷ merged a e rs l h
   unfolding merged keep
   merged-before r rs l h k = rw (le-leb (past r) a k, le-ltb a (past r) k, and-false, lt-leb e (r .start) (omega arith))
 
-  merged-meets : (r : Record) (rs : List Record) (l h : ℕ) → r .start < e → a < past r → merged a e (r ∷ rs) l h ≡ merged a e rs (min (r .start) l) (max (past r) h)
+  pub merged-meets : (r : Record) (rs : List Record) (l h : ℕ) → r .start < e → a < past r → merged a e (r ∷ rs) l h ≡ merged a e rs (min (r .start) l) (max (past r) h)
   unfolding merged keep lowest highest
   merged-meets r rs l h j k = rw (lt-leb (past r) a k, lt-ltb (r .start) e j, lt-ltb a (past r) k, lt-leb e (r .start) j, lowest-min, highest-max)
 
   -- a record after the span stays, behind the union
-  merged-after : (r : Record) (rs : List Record) (l h : ℕ) → e ≤ r .start
+  pub merged-after : (r : Record) (rs : List Record) (l h : ℕ) → e ≤ r .start
       → merged a e (r ∷ rs) l h ≡ earlier a rs ++ between (lowest l (met a e rs)) (highest h (met a e rs)) ∷ r ∷ later e rs
   unfolding merged keep
   merged-after r rs l h k = rw (lt-leb (past r) a (omega arith), le-ltb (r .start) e k, le-leb e (r .start) k)
 
   -- where the records begin after the span, all of them do
-  merged-past : (lo : ℕ) (rs : List Record) (l h : ℕ) → ascending lo rs ≡ true → e ≤ lo → merged a e rs l h ≡ between l h ∷ rs
+  pub merged-past : (lo : ℕ) (rs : List Record) (l h : ℕ) → ascending lo rs ≡ true → e ≤ lo → merged a e rs l h ≡ between l h ∷ rs
   unfolding merged lowest highest
   merged-past lo rs l h up k =
       rw (

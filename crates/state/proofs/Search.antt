@@ -11,19 +11,15 @@ use Rattle.state.specs.declared.Record.{Record}
 use Rattle.state.specs.declared.join.Meeting.{Meeting}
 use Rattle.state.specs.Records.{past}
 use Rattle.state.specs.State.{noRecord}
-use Rattle.state.specs.Join.{passed, searched, unmet, meeting, unionOf, entryAfter}
+use Rattle.state.specs.Join.{moved, widened, passed, searched, unmet, meeting, unionOf, entryAfter}
 
 -- a record before the span, and one that meets it
 module _ (a : ℕ) (r : Record) (m : Meeting) where
-  pub passed-before :
-      past r ≤ a → passed a r m ≡ record { first = m .first + 1; last = m .last + 1; low = m .low; high = m .high; below = m .below + r .len; held = m .held }
+  pub passed-before : past r ≤ a → passed a r m ≡ moved r m
   unfolding passed
   passed-before h = rw (le-leb (past r) a h)
 
-  pub passed-meets :
-      a < past r
-      → passed a r m
-      ≡ record { first = m .first; last = m .last + 1; low = min (r .start) (m .low); high = max (past r) (m .high); below = m .below; held = m .held + r .len }
+  pub passed-meets : a < past r → passed a r m ≡ widened r m
   unfolding passed
   passed-meets h = rw (lt-leb (past r) a h)
 

@@ -29,7 +29,7 @@ module _ (p : CommandState) (m : Meeting) where
   pub wanted-size : length (wanted p m) ≡ recordLimit
   wanted-size = length-map (span 0 recordLimit) (entryAfter (p .records) m) ∙ length-span 0 recordLimit
 
-  wanted-at : (k : ℕ) → k < recordLimit → getD (wanted p m) k noRecord ≡ entryAfter (p .records) m k
+  pub wanted-at : (k : ℕ) → k < recordLimit → getD (wanted p m) k noRecord ≡ entryAfter (p .records) m k
   wanted-at k h =
       ap (λ (xs : List ℕ). getD (map (entryAfter (p .records) m) xs) k noRecord) (sym (append-nil (span 0 recordLimit)))
       ∙ span-at (entryAfter (p .records) m) noRecord 0 recordLimit [] k h ∙ ap (entryAfter (p .records) m) (zero-add k)

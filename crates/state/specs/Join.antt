@@ -1,7 +1,8 @@
 -- The search for the records that meet a span, and the records that it leaves, as the code computes them. The laws in proofs/ say
 -- what they are for records that ascend: the search finds just the records that share a byte with the span, and the rest is
 -- `joined`.
-use Prim.Native.Nat.{ℕ, suc, _+_, _-_, _%_, min, max}
+use Prim.Native.Nat.{ℕ, suc, _+_, _-_, _%_, _≤_, min, max}
+use mathlib.Core.Path.{_≡_}
 use mathlib.Core.List.{List, [], _∷_, map}
 use mathlib.Core.Bool.{true, false, cond}
 use lib.Dec.{ltb, leb, eqb}
@@ -10,16 +11,20 @@ use Rattle.state.specs.declared.Record.{Record}
 use Rattle.state.specs.declared.CommandState.{CommandState}
 use Rattle.state.specs.declared.join.Meeting.{Meeting}
 use Rattle.state.specs.declared.join.Join.{Join}
-use Rattle.state.specs.Limits.{recordLimit}
-use Rattle.state.specs.Records.{past, span}
-use Rattle.state.specs.State.{noRecord, recordsIn}
+use Rattle.state.specs.Limits.{recordLimit, heldLimit, windowLimit}
+use Rattle.state.specs.Records.{past, span, total, fresh, joined}
+use Rattle.state.specs.State.{noRecord, open-with, recordsIn, commandHolds}
 
--- a record that starts before the span's end lies before the span, or meets it and widens the union
+-- a record that lies before the span, and one that meets it and widens the union
+abbrev pub moved : Record → Meeting → Meeting
+moved r m = record { first = m .first + 1; last = m .last + 1; low = m .low; high = m .high; below = m .below + r .len; held = m .held }
+
+abbrev pub widened : Record → Meeting → Meeting
+widened r m = record { first = m .first; last = m .last + 1; low = min (r .start) (m .low); high = max (past r) (m .high); below = m .below; held = m .held + r .len }
+
+-- a record that starts before the span's end is one of the two
 unfoldable pub passed : ℕ → Record → Meeting → Meeting
-passed a r m =
-    cond (leb (past r) a)
-    (record { first = m .first + 1; last = m .last + 1; low = m .low; high = m .high; below = m .below + r .len; held = m .held })
-    (record { first = m .first; last = m .last + 1; low = min (r .start) (m .low); high = max (past r) (m .high); below = m .below; held = m .held + r .len })
+passed a r m = cond (leb (past r) a) (moved r m) (widened r m)
 
 -- the search stops at the first record that starts at the span's end or above it
 unfoldable pub searched : (a e : ℕ) → List Record → Meeting → Meeting
@@ -52,3 +57,18 @@ spliced p m = record {
 
 unfoldable pub join : CommandState → (a e : ℕ) → Join
 join p a e = record { meeting = meeting (recordsIn p) a e; command = spliced p (meeting (recordsIn p) a e) }
+
+-- Where there is room for the span: the command is open and holds together, and the span ends where addresses do, its fresh bytes
+-- leave the total within bounds, and so do the joined records their number.
+pub record Room (p : CommandState) (a n : ℕ) : Type 0 where
+  pub opened : p .opened ≡ true
+  pub size : length (p .records) ≡ recordLimit
+  pub whole : commandHolds p ≡ true
+  pub fits : a + n ≤ windowLimit
+  pub bytes : total (recordsIn p) + fresh (recordsIn p) a n ≤ heldLimit
+  pub few : length (joined (recordsIn p) a n) ≤ recordLimit
+
+-- what join gives of every command, and what that is where there is room
+pub record Joins (p : CommandState) (a e : ℕ) (r : Join) : Type 0 where
+  pub is : r ≡ join p a e
+  pub records : (n : ℕ) → e ≡ a + suc n → Room p a (suc n) → r .command ≡ open-with (joined (recordsIn p) a (suc n))

@@ -4,7 +4,7 @@ ghost use Prim.Native.Nat.{_≤_, _<_};
 ghost use lib.ListN.{length};
 ghost use Rattle.state.specs.Limits.{recordLimit};
 ghost use Rattle.state.specs.State.{recordsIn};
-ghost use Rattle.state.specs.Join.{passed, meeting, entryAfter, spliced, join};
+ghost use Rattle.state.specs.Join.{meeting, entryAfter, spliced, Joins};
 ghost use Rattle.state.specs.Bounds.{Counted, Passed};
 use super::CacheState;
 use super::CommandState;
@@ -124,7 +124,7 @@ impl CommandState {
 
     // The span from `address` up to `end` joined with the records.
     pub fn join(self, address: usize, end: usize) -> Join
-        ensures { λ r. ⌜ r ≡ join self address end ⌝ }
+        ensures { λ r. ⌜ Joins self address end r ⌝ }
     {
         let meeting = self.meeting(address, end);
         let command = self.spliced(meeting);

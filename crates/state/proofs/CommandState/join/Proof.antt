@@ -1,11 +1,13 @@
 -- The search is handed on to the splice, which needs that its numbers are in order.
 use mathlib.Core.Path.{ap, sym, subst, _∙_}
+use Prim.Native.Nat.{ℕ}
 use lib.ListN.{length}
 use borrow.Author.Needs.{needs}
 use Rattle.state.specs.declared.join.Meeting.{Meeting}
 use Rattle.state.specs.State.{recordsIn}
-use Rattle.state.specs.Join.{spliced, join}
+use Rattle.state.specs.Join.{meeting, spliced, join}
 use Rattle.state.proofs.Search.{Ordered, meeting-ordered}
+use Rattle.state.proofs.Entries.{spliced-joined}
 use Rattle.state.proofs.CommandState.join.Statement.{statement}
 use Rattle.state.proofs.CommandState.join.Tie as tie
 
@@ -23,9 +25,14 @@ spliced-requires c κs =
 returns : tie.Need-returns
 unfolding join
 returns c =
+    let p = c .before .before .args .self in
+    let a = c .before .before .args .address in
     let met = c .before .meeting .ensures in
-    let put = c .spliced .ensures ∙ ap (spliced (c .before .before .args .self)) met in
-    λ i. record { meeting = met i; command = put i }
+    let put = c .spliced .ensures ∙ ap (spliced p) met in
+    record {
+      is = λ i. record { meeting = met i; command = put i };
+      records = λ n e R. put ∙ ap (λ (k : ℕ). spliced p (meeting (recordsIn p) a k)) e ∙ spliced-joined p a n R;
+    }
 
 pub join-spec : {M : Type 1} → statement M
 join-spec = tie.close (tie.spec meeting-requires spliced-requires returns)
