@@ -1,24 +1,25 @@
 -- The code's entries, with the union put in, are those of the joined records: this ties `spliced` to `joined`.
-use Prim.Native.Nat.{ℕ, zero, suc, _+_, _-_, _%_, _≤_, _<_, max}
+use Prim.Native.Nat.{ℕ, zero, suc, _+_, _-_, _%_, _≤_, _<_, min}
 use native.Mathlib.Omega.{arith}
-use mathlib.Core.Path.{_≡_, refl, ap, ap₂, sym, _∙_}
-use mathlib.Core.List.{List, [], _∷_, _++_, map}
+use mathlib.Core.Path.{_≡_, refl, ap, sym, _∙_}
+use mathlib.Core.List.{List, [], _∷_, _++_}
 use mathlib.Core.Bool.{Bool, true, false}
 use lib.Dec.{ltb, eqb}
 use lib.ListN.{length, take, drop, getD, replicate, length-append, length-drop, take-append-drop, List·getD-append}
-use lib.Seq.{length-take-le, getD-take, getD-drop, getD-append-add, ext-getD}
+use lib.Seq.{length-take-le, getD-take, getD-drop, ext-getD}
 use borrow.Author.Tests.{ltb-true, ltb-false, eqb-true, eqb-false}
 use Rattle.octets.proofs.Lists.{getD-past}
 use Rattle.state.specs.declared.Record.{Record}
 use Rattle.state.specs.declared.CommandState.{CommandState}
 use Rattle.state.specs.declared.join.Meeting.{Meeting}
-use Rattle.state.specs.Limits.{recordLimit, heldLimit, windowLimit}
-use Rattle.state.specs.Records.{total, fresh, joined}
-use Rattle.state.specs.State.{noRecord, open-with, recordsIn, ascending, commandHolds}
+use Rattle.state.specs.Limits.{recordLimit, windowLimit}
+use Rattle.state.specs.Records.{total, place, fresh, joined}
+use Rattle.state.specs.State.{noRecord, open-with, recordsIn}
 use Rattle.state.specs.Join.{unionOf, entryAfter, meeting, spliced, Room}
-use Rattle.state.proofs.Commands.{Kept, kept-command, open-with-padded, length-open-with}
+use Rattle.state.proofs.Commands.{kept-command, open-with-padded, length-open-with}
 use Rattle.state.proofs.Merge.{between}
-use Rattle.state.proofs.Laws.{total-append}
+use Rattle.state.proofs.Laws.{ascending-joined, total-append}
+use Rattle.state.proofs.Places.{place-middle}
 use Rattle.state.proofs.Search.{entry-before, entry-union, entry-behind}
 use Rattle.state.proofs.Splice.{wanted, wanted-size, wanted-at, is-spliced}
 use Rattle.state.proofs.Found.{Found, found}
@@ -109,3 +110,12 @@ module _ (p : CommandState) (a n : ℕ) (R : Room p a (suc n)) where
 
       entries : open-with (joined rs a (suc n)) .records ≡ wanted p m
       entries = ext-getD noRecord (open-with (joined rs a (suc n)) .records) (wanted p m) (length-open-with (joined rs a (suc n)) (R .few) ∙ sym (wanted-size p m)) at-each
+
+  pub fresh-found : m .high - m .low - m .held ≡ fresh rs a (suc n)
+  fresh-found = omega (arith, F .counts)
+
+  pub place-found : m .below + min (a - m .low) windowLimit ≡ place (joined rs a (suc n)) a
+  place-found =
+      let up = rw (F .joins) at (ascending-joined rs a (suc n) (kept-command p (R .whole) .up) (R .fits)) in
+      let at-a = place-middle 0 (take (m .first) rs) (between (m .low) (m .high)) (drop (m .last) rs) a up (F .low) (omega (arith, F .low, F .high)) in
+      omega (arith, F .below, F .low, R .fits, at-a, ap (λ (l : List Record). place l a) (F .joins))

@@ -1,12 +1,11 @@
 -- What the search finds where the records ascend: a front that lies before the span, a middle that shares a byte with it, and a back
 -- that starts behind it, so that `joined` puts one record in the place of the middle.
-use Prim.Native.Nat.{ℕ, zero, suc, _+_, _-_, _≤_, _<_, min, max}
+use Prim.Native.Nat.{ℕ, suc, _+_, _-_, _≤_, _<_, max}
 use native.Mathlib.Omega.{arith}
 use mathlib.Core.Path.{_≡_, refl, ap, ap₂, _∙_}
 use mathlib.Core.List.{List, [], _∷_, _++_}
 use mathlib.Core.Bool.{true}
 use lib.ListN.{length, take, drop, take-append-drop}
-use lib.Seq.{take-nil}
 use Rattle.state.specs.declared.Record.{Record}
 use Rattle.state.specs.declared.join.Meeting.{Meeting}
 use Rattle.state.specs.Limits.{windowLimit}

@@ -1,11 +1,11 @@
 -- The packed bytes around the joined record: those before it stay in their place, and those behind it move up. For the code that
 -- moves them; `at k` a command's part begins.
-use Prim.Native.Nat.{ℕ, suc, _+_, _-_, _≤_}
+use Prim.Native.Nat.{ℕ, _+_, _-_, _≤_}
 use native.Mathlib.Omega.{arith}
-use mathlib.Core.Path.{_≡_, refl, ap, ap₂, sym, _∙_}
-use mathlib.Core.List.{List, [], _∷_, _++_, map, map-append}
+use mathlib.Core.Path.{_≡_, ap, sym, _∙_}
+use mathlib.Core.List.{List, _∷_, _++_, map, map-append}
 use mathlib.Core.Bool.{true}
-use lib.ListN.{length, take, drop, getD, length-map, length-take, length-drop, take-append-drop}
+use lib.ListN.{length, take, drop, getD, length-map, length-drop, take-append-drop}
 use lib.Seq.{take-at, drop-at, take-add, length-take-le}
 use Rattle.state.specs.declared.Record.{Record}
 use Rattle.state.specs.declared.join.Meeting.{Meeting}

@@ -8,7 +8,7 @@ use native.Mathlib.Nat.{add-zero, zero-add, suc-add, not-suc-le-zero}
 use lib.ListN.{length, take, drop, getD}
 use lib.Seq.{drop-cons}
 use Rattle.state.specs.declared.Record.{Record}
-use Rattle.state.specs.Records.{past, held, span, place, countFresh, fresh}
+use Rattle.state.specs.Records.{past, held, span, total, place, countFresh, fresh}
 use Rattle.state.specs.State.{ascending}
 use Rattle.state.proofs.Cases.{Side, before, meets, after, side, Ascends, ascends, inside, below, above}
 
@@ -105,3 +105,22 @@ map-read f l k a (suc n) fits same =
     rw (drop-cons l k 0 (omega arith), first)
     (ap (λ (t : List ℕ). getD l k 0 ∷ t)
     (map-read f l (suc k) (suc a) n (omega arith) (λ i h. ap f (omega arith) ∙ same (suc i) (omega arith) ∙ ap (λ (j : ℕ). getD l j 0) (omega arith))))
+
+-- the place of an address in a record in the middle of an ascending list
+middle-above : (lo : ℕ) (xs : List Record) (u : Record) (ys : List Record) → ascending lo (xs ++ u ∷ ys) ≡ true → lo ≤ u .start
+middle-above lo [] u ys up = ascends lo u ys up .from
+middle-above lo (r ∷ xs) u ys up =
+    let v = ascends lo r (xs ++ u ∷ ys) up in
+    omega (arith, middle-above (past r) xs u ys (v .rest))
+
+pub place-middle :
+    (lo : ℕ) (xs : List Record) (u : Record) (ys : List Record) (x : ℕ) → ascending lo (xs ++ u ∷ ys) ≡ true → u .start ≤ x → x < past u
+    → place (xs ++ u ∷ ys) x ≡ total xs + (x - u .start)
+unfolding place total
+place-middle lo [] u ys x up h k =
+    let v = ascends lo u ys up in
+    omega (arith, place-low (past u) ys x (v .rest) (omega arith))
+place-middle lo (r ∷ xs) u ys x up h k =
+    let v = ascends lo r (xs ++ u ∷ ys) up in
+    let below = middle-above (past r) xs u ys (v .rest) in
+    omega (arith, place-all r x (omega arith), place-middle (past r) xs u ys x (v .rest) h k)

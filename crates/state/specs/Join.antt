@@ -12,7 +12,7 @@ use Rattle.state.specs.declared.CommandState.{CommandState}
 use Rattle.state.specs.declared.join.Meeting.{Meeting}
 use Rattle.state.specs.declared.join.Join.{Join}
 use Rattle.state.specs.Limits.{recordLimit, heldLimit, windowLimit}
-use Rattle.state.specs.Records.{past, span, total, fresh, joined}
+use Rattle.state.specs.Records.{past, span, total, place, fresh, joined}
 use Rattle.state.specs.State.{noRecord, open-with, recordsIn, commandHolds}
 
 -- a record that lies before the span, and one that meets it and widens the union
@@ -56,7 +56,9 @@ spliced p m = record {
 }
 
 unfoldable pub join : CommandState → (a e : ℕ) → Join
-join p a e = record { meeting = meeting (recordsIn p) a e; command = spliced p (meeting (recordsIn p) a e) }
+join p a e =
+    let m = meeting (recordsIn p) a e in
+    record { meeting = m; fresh = m .high - m .low - m .held; place = m .below + min (a - m .low) windowLimit; command = spliced p m }
 
 -- Where there is room for the span: the command is open and holds together, and the span ends where addresses do, its fresh bytes
 -- leave the total within bounds, and so do the joined records their number.
@@ -68,7 +70,13 @@ pub record Room (p : CommandState) (a n : ℕ) : Type 0 where
   pub bytes : total (recordsIn p) + fresh (recordsIn p) a n ≤ heldLimit
   pub few : length (joined (recordsIn p) a n) ≤ recordLimit
 
--- what join gives of every command, and what that is where there is room
+-- What join gives: where there is room, 01's fresh, the place of the span's first address among the packed bytes, and the records
+-- joined.
+pub record Joined (p : CommandState) (a n : ℕ) (r : Join) : Type 0 where
+  pub fresh : r .fresh ≡ fresh (recordsIn p) a n
+  pub place : r .place ≡ place (joined (recordsIn p) a n) a
+  pub records : r .command ≡ open-with (joined (recordsIn p) a n)
+
 pub record Joins (p : CommandState) (a e : ℕ) (r : Join) : Type 0 where
   pub is : r ≡ join p a e
-  pub records : (n : ℕ) → e ≡ a + suc n → Room p a (suc n) → r .command ≡ open-with (joined (recordsIn p) a (suc n))
+  pub room : (n : ℕ) → e ≡ a + suc n → Room p a (suc n) → Joined p a (suc n) r

@@ -22,9 +22,12 @@ pub struct Meeting {
     pub held: usize,
 }
 
-// What joining a span gives: how it met the records, and the command with them joined.
+// What joining a span gives: how it met the records, how many of its bytes are fresh, where its first address stands among the
+// packed bytes, and the command with the records joined.
 pub struct Join {
     pub meeting: Meeting,
+    pub fresh: usize,
+    pub place: usize,
     pub command: CommandState,
 }
 
@@ -59,7 +62,7 @@ fn pass(m: Meeting, r: Record, address: usize) -> Meeting
 impl CommandState {
     // How the span from `address` up to `end` lies among the records.
     pub fn meeting(self, address: usize, end: usize) -> Meeting
-        ensures { λ r. ⌜ r ≡ meeting (recordsIn self) address end ⌝ }
+        ensures { λ r. ⌜ (r ≡ meeting (recordsIn self) address end) × Counted r recordLimit ⌝ }
     {
         let used = self.used();
         let mut m = Meeting {
@@ -127,7 +130,16 @@ impl CommandState {
         ensures { λ r. ⌜ Joins self address end r ⌝ }
     {
         let meeting = self.meeting(address, end);
+        let size = octets::minus(meeting.high, meeting.low);
+        let fresh = octets::minus(size, meeting.held);
+        let inside = octets::minus(address, meeting.low);
+        let place = meeting.below + octets::lesser(inside, CacheState::WINDOW);
         let command = self.spliced(meeting);
-        Join { meeting, command }
+        Join {
+            meeting,
+            fresh,
+            place,
+            command,
+        }
     }
 }

@@ -1,38 +1,74 @@
--- The search is handed on to the splice, which needs that its numbers are in order.
-use mathlib.Core.Path.{ap, sym, subst, _∙_}
-use Prim.Native.Nat.{ℕ}
+-- The search is handed on: its numbers give fresh and the place, and in their order they are what the splice needs.
+use Prim.Native.Nat.{ℕ, suc, _+_, _-_, min}
+use mathlib.Core.Path.{_≡_, ap, sym, subst, _∙_}
 use lib.ListN.{length}
 use borrow.Author.Needs.{needs}
 use Rattle.state.specs.declared.join.Meeting.{Meeting}
+use Rattle.state.specs.Limits.{windowLimit}
 use Rattle.state.specs.State.{recordsIn}
 use Rattle.state.specs.Join.{meeting, spliced, join}
 use Rattle.state.proofs.Search.{Ordered, meeting-ordered}
-use Rattle.state.proofs.Entries.{spliced-joined}
+use Rattle.state.proofs.Entries.{spliced-joined, fresh-found, place-found}
 use Rattle.state.proofs.CommandState.join.Statement.{statement}
 use Rattle.state.proofs.CommandState.join.Tie as tie
 
 meeting-requires : tie.Need-meeting-requires
 meeting-requires c κs = search needs
 
+minus-requires : tie.Need-minus-requires
+minus-requires c κs = search needs
+
+minus-requires-2 : tie.Need-minus-requires-2
+minus-requires-2 c κs = search needs
+
+minus-requires-3 : tie.Need-minus-requires-3
+minus-requires-3 c κs = search needs
+
+lesser-requires : tie.Need-lesser-requires
+lesser-requires c κs = search needs
+
+add-place : tie.Need-add-place
+add-place c = search needs
+
 spliced-requires : tie.Need-spliced-requires
 spliced-requires c κs =
-    let rs = recordsIn (c .before .args .self) in
-    let o =
-    subst (λ (m : Meeting). Ordered m (length rs)) (sym (c .meeting .ensures)) (meeting-ordered rs (c .before .args .address) (c .before .args .end))
-    in
+    let rs = recordsIn (c .before .before .before .before .before .before .args .self) in
+    let met = c .before .before .before .before .before .meeting .ensures .0 in
+    let o = subst (λ (m : Meeting). Ordered m (length rs)) (sym met) (meeting-ordered rs (c .before .before .before .before .before .before .args .address) (c .before .before .before .before .before .before .args .end)) in
     (o .first, o .last)
 
 returns : tie.Need-returns
 unfolding join
 returns c =
-    let p = c .before .before .args .self in
-    let a = c .before .before .args .address in
-    let met = c .before .meeting .ensures in
+    let p = c .before .before .before .before .before .before .before .args .self in
+    let a = c .before .before .before .before .before .before .before .args .address in
+    let m = c .before .before .before .before .before .before .meeting .result in
+    let met = c .before .before .before .before .before .before .meeting .ensures .0 in
+    let fresh = c .before .before .before .before .minus2 .ensures ∙ ap (λ (k : ℕ). k - m .held) (c .before .before .before .before .before .minus .ensures) ∙ ap (λ (k : Meeting). k .high - k .low - k .held) met in
+    let inside = c .before .before .lesser .ensures ∙ ap (λ (k : ℕ). min k windowLimit) (c .before .before .before .minus3 .ensures) in
+    let place = ap (λ (k : ℕ). m .below + k) inside ∙ ap (λ (k : Meeting). k .below + min (a - k .low) windowLimit) met in
     let put = c .spliced .ensures ∙ ap (spliced p) met in
+    let here : (n : ℕ) → c .before .before .before .before .before .before .before .args .end ≡ a + suc n → meeting (recordsIn p) a (c .before .before .before .before .before .before .before .args .end) ≡ meeting (recordsIn p) a (a + suc n) =
+    λ n e. ap (meeting (recordsIn p) a) e
+    in
     record {
-      is = λ i. record { meeting = met i; command = put i };
-      records = λ n e R. put ∙ ap (λ (k : ℕ). spliced p (meeting (recordsIn p) a k)) e ∙ spliced-joined p a n R;
+      is = λ i. record { meeting = met i; fresh = fresh i; place = place i; command = put i };
+      room = λ n e R. record {
+        fresh = fresh ∙ ap (λ (k : Meeting). k .high - k .low - k .held) (here n e) ∙ fresh-found p a n R;
+        place = place ∙ ap (λ (k : Meeting). k .below + min (a - k .low) windowLimit) (here n e) ∙ place-found p a n R;
+        records = put ∙ ap (spliced p) (here n e) ∙ spliced-joined p a n R;
+      };
     }
 
 pub join-spec : {M : Type 1} → statement M
-join-spec = tie.close (tie.spec meeting-requires spliced-requires returns)
+join-spec =
+    tie.close
+    (tie.spec
+    meeting-requires
+    minus-requires
+    minus-requires-2
+    minus-requires-3
+    lesser-requires
+    add-place
+    spliced-requires
+    returns)

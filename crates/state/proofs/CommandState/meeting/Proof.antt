@@ -1,6 +1,6 @@
 -- What the search makes of the records still to come is what it makes of all of them.
 use native.Mathlib.Omega.{arith}
-use Prim.Native.Nat.{_+_, _-_}
+use Prim.Native.Nat.{_+_, _-_, _≤_}
 use mathlib.Core.Path.{_≡_, refl, ap, sym, _∙_}
 use lib.ListN.{drop, getD}
 use borrow.Author.Needs.{needs}
@@ -13,7 +13,7 @@ use Rattle.state.proofs.CommandState.meeting.Statement.{statement}
 use Rattle.state.proofs.CommandState.meeting.Tie as tie
 
 abbrev Inv-loop : tie.InvT-loop
-Inv-loop address end self used m₀ i₀ m i = (searched address end (drop i (recordsIn self)) m ≡ meeting (recordsIn self) address end) × Counted m i × (m .last ≡ i)
+Inv-loop address end self used m₀ i₀ m i = (searched address end (drop i (recordsIn self)) m ≡ meeting (recordsIn self) address end) × Counted m i × (m .last ≡ i) × (i ≤ used)
 
 abbrev μ-loop : tie.MeasureT-loop
 μ-loop address end self used m₀ i₀ m i = used - i
@@ -23,7 +23,7 @@ used-requires c κs = search needs
 
 loop-holds : tie.Need-loop-holds Inv-loop μ-loop
 unfolding meeting
-loop-holds c = (refl, record { first = omega arith; last = omega arith; below = omega arith; held = omega arith }, refl)
+loop-holds c = (refl, record { first = omega arith; last = omega arith; below = omega arith; held = omega arith }, refl, omega arith)
 
 mul-r : tie.Need-mul-r Inv-loop μ-loop
 mul-r c = omega arith
@@ -44,7 +44,7 @@ returns c =
     let r = getD (p .records) i noRecord in
     let rest = drop (i + 1) (recordsIn p) in
     let left = at-next p i (omega arith) (λ rs. searched a e rs m) (c .before .before .before .before .loop .inv .0) in
-    sym (search-stops a e r rest m (omega arith)) ∙ left
+    (sym (search-stops a e r rest m (omega arith)) ∙ left, record { first = c .before .before .before .before .loop .inv .1 .first; last = omega arith; below = omega arith; held = omega arith })
 
 pass-requires : tie.Need-pass-requires Inv-loop μ-loop
 pass-requires c κs = search needs
@@ -68,13 +68,16 @@ loop-again c =
       ap (searched a e rest) (c .pass .ensures .is) ∙ sym (search-on a e r rest m (omega arith)) ∙ left,
       record { first = c .pass .ensures .order (c .before .before .before .before .before .loop .inv .1 .first); last = omega arith; below = omega arith; held = omega arith },
       omega arith,
+      omega arith,
     )
 
 returns-2 : tie.Need-returns-2 Inv-loop μ-loop
 returns-2 c =
     let p = c .before .before .before .args .t1 in
-    let m = c .before .loop .m in
-    sym (sym (c .before .loop .inv .0) ∙ ap (λ rs. searched (c .before .before .before .args .address) (c .before .before .before .args .end) rs m) (no-record p (c .before .loop .i) (omega arith)) ∙ unfold searched in refl)
+    let m = c .before .loop .m in (
+      sym (sym (c .before .loop .inv .0) ∙ ap (λ rs. searched (c .before .before .before .args .address) (c .before .before .before .args .end) rs m) (no-record p (c .before .loop .i) (omega arith)) ∙ unfold searched in refl),
+      record { first = c .before .loop .inv .1 .first; last = omega arith; below = omega arith; held = omega arith },
+    )
 
 pub meeting-spec : {M : Type 1} → statement M
 meeting-spec =
