@@ -24,7 +24,7 @@ use Rattle.history.specs.Firsts.{none, first, Memory, remember, memory, recall,
 use Rattle.history.proofs.Effects.{refused-same, length-after}
 use Rattle.history.proofs.Sound.{Sound, sound-start, sound-after}
 use Rattle.history.proofs.Delivery.{delivers-owed}
-use Rattle.situations.specs.Steps.{sameNumbers, sameAnswer, sameRecords, asExpected, Expected, unsaid, is, Step, passes}
+use Rattle.situations.specs.Steps.{sameNumbers, sameAnswer, sameRecords, asExpected, Expected, unsaid, is, Made, Step, calls, passes}
 use Rattle.situations.specs.Situations.{bytesOf, window, dest, store, opens, fetches, turnedAway, E}
 
 -- a step passes by equations
@@ -39,9 +39,9 @@ same-answer (refused n) = eq-eqb n n refl
 same-answer (replied ns) = same-numbers ns
 
 step :
-    (m : Machine) (t : Step) (ts : List Step) → says m (t .call) ≡ t .answer → delivers m (t .call) ≡ t .bytes
+    (m : Machine) (t : Made) (ts : List Step) → says m (t .call) ≡ t .answer → delivers m (t .call) ≡ t .bytes
     → asExpected sameRecords (t .records) (recordsOf (after m (t .call) .state) 0) ≡ true → t .window ≡ unsaid → passes (after m (t .call)) ts ≡ true
-    → passes m (t ∷ ts) ≡ true
+    → passes m (calls t ∷ ts) ≡ true
 unfolding passes asExpected
 step m t ts answer bytes records silent rest =
     let says-it : sameAnswer (t .answer) (says m (t .call)) ≡ true = rw answer (same-answer (t .answer)) in
@@ -208,19 +208,19 @@ no-more m = refl
 
 again-passes : passes filled (fetches 0 4096 0 4096 whole-record ∷ []) ≡ true
 unfolding fetches
-again-passes = step filled (fetches 0 4096 0 4096 whole-record) [] again-taken again-delivers (full-records _ again-state) refl (no-more _)
+again-passes = step filled _ [] again-taken again-delivers (full-records _ again-state) refl (no-more _)
 
 past-passes : passes filled (turnedAway 4096 1 23 whole-record ∷ fetches 0 4096 0 4096 whole-record ∷ []) ≡ true
 unfolding turnedAway
 past-passes =
-    step filled (turnedAway 4096 1 23 whole-record) (fetches 0 4096 0 4096 whole-record ∷ []) past-taken past-delivers
+    step filled _ (fetches 0 4096 0 4096 whole-record ∷ []) past-taken past-delivers
     (full-records _ (ap (λ (m : Machine). m .state) past-same ∙ filled-state)) refl
     (subst (λ (m : Machine). passes m (fetches 0 4096 0 4096 whole-record ∷ []) ≡ true) (sym past-same) again-passes)
 
 fill-passes : passes opened E ≡ true
 unfolding E fetches filled asExpected
 fill-passes =
-    step opened (fetches 0 4096 4096 0 unsaid) (turnedAway 4096 1 23 whole-record ∷ fetches 0 4096 0 4096 whole-record ∷ [])
+    step opened _ (turnedAway 4096 1 23 whole-record ∷ fetches 0 4096 0 4096 whole-record ∷ [])
     fill-taken fill-delivers refl refl past-passes
 
 opens-passes : (ts : List Step) → passes opened ts ≡ true → passes (start store) (opens ∷ ts) ≡ true

@@ -6,7 +6,7 @@ use Rattle.octets.specs.Lists.{all}
 use Rattle.octets.proofs.Lists.{both}
 use Rattle.history.specs.Runs.{start}
 use Rattle.situations.specs.Steps.{passes}
-use Rattle.situations.specs.Situations.{store, opens, A, B, C, D, F, G, H, J, situations, Situations}
+use Rattle.situations.specs.Situations.{store, opens, A, B, C, D, F, G, H, I, J, situations, Situations}
 use Rattle.situations.proofs.Full.{e-passes}
 
 a-passes : passes (start store) (opens ∷ A) ≡ true
@@ -37,10 +37,14 @@ h-passes : passes (start store) (opens ∷ H) ≡ true
 unfolding passes store opens H
 h-passes = refl
 
+i-passes : passes (start store) (opens ∷ I) ≡ true
+unfolding passes store opens I
+i-passes = refl
+
 j-passes : passes (start store) (opens ∷ J) ≡ true
 unfolding passes store opens J
 j-passes = refl
 
 pub situations-hold : Situations
 unfolding all situations
-situations-hold = both a-passes (both b-passes (both c-passes (both d-passes (both e-passes (both f-passes (both g-passes (both h-passes (both j-passes refl))))))))
+situations-hold = both a-passes (both b-passes (both c-passes (both d-passes (both e-passes (both f-passes (both g-passes (both h-passes (both i-passes (both j-passes refl)))))))))

@@ -1,4 +1,4 @@
--- 01's marked situations with a star, but for I, which is of frames. Each starts with command 0 open, no records, and a window of 16,384 bytes.
+-- 01's marked situations with a star. Each starts with command 0 open, no records, and a window of 16,384 bytes.
 use Prim.Native.Nat.{ℕ, _*_, _%_}
 use mathlib.Core.Path.{_≡_}
 use mathlib.Core.List.{List, [], _∷_, _++_, map}
@@ -9,7 +9,7 @@ use Rattle.state.specs.declared.Record.{Record}
 use Rattle.state.specs.Records.{span}
 use Rattle.state.specs.Verdict.{refused, replied}
 use Rattle.history.specs.Runs.{begin, fetch, ownWrite, start}
-use Rattle.situations.specs.Steps.{Expected, unsaid, is, Step, passes}
+use Rattle.situations.specs.Steps.{Expected, unsaid, is, Step, calls, reads, passes}
 
 -- the byte at each address is its number modulo 256
 unfoldable pub bytesOf : ℕ → ℕ → List ℕ
@@ -32,16 +32,16 @@ a ∔ n = record { start = a; len = n }
 
 infix 80 _∔_
 unfoldable pub opens : Step
-opens = record { call = begin 0; answer = replied []; bytes = []; records = is []; window = unsaid }
+opens = calls (record { call = begin 0; answer = replied []; bytes = []; records = is []; window = unsaid })
 
 -- command 0 fetches a+n and is given its bytes, or is turned away
 unfoldable pub fetches : (a n fresh replayed : ℕ) → Expected (List Record) → Step
 unfolding bytesOf window dest
-fetches a n fresh replayed rs = record { call = fetch 0 a n dest window; answer = replied (fresh ∷ replayed ∷ []); bytes = bytesOf a n; records = rs; window = unsaid }
+fetches a n fresh replayed rs = calls (record { call = fetch 0 a n dest window; answer = replied (fresh ∷ replayed ∷ []); bytes = bytesOf a n; records = rs; window = unsaid })
 
 unfoldable pub turnedAway : (a n number : ℕ) → Expected (List Record) → Step
 unfolding window dest
-turnedAway a n number rs = record { call = fetch 0 a n dest window; answer = refused number; bytes = []; records = rs; window = unsaid }
+turnedAway a n number rs = calls (record { call = fetch 0 a n dest window; answer = refused number; bytes = []; records = rs; window = unsaid })
 
 unfoldable pub A : List Step
 unfolding fetches
@@ -75,11 +75,15 @@ F =
     ++ turnedAway 128 1 24 (is (evens 0 64)) ∷ fetches 0 3 1 2 (is (0 ∔ 3 ∷ evens 2 62)) ∷ []
 
 unfoldable pub G : List Step
-G = record { call = begin 0; answer = refused 22; bytes = []; records = is []; window = unsaid } ∷ []
+G = calls (record { call = begin 0; answer = refused 22; bytes = []; records = is []; window = unsaid }) ∷ []
 
 unfoldable pub H : List Step
 unfolding turnedAway
 H = turnedAway 0 4097 4 (is []) ∷ []
+
+-- a spare bit that is set, a frame cut off, and a kind that is not allowed
+unfoldable pub I : List Step
+I = reads (0x28 ∷ 0 ∷ 0x40 ∷ 0 ∷ 0x81 ∷ []) (refused 3) ∷ reads (0x28 ∷ 0 ∷ 0x40 ∷ 0 ∷ []) (refused 1) ∷ reads (0xa0 ∷ 0 ∷ 0 ∷ 0 ∷ 0 ∷ []) (refused 2) ∷ []
 
 -- the window after an own write of two bytes at 16, and the command still gets the old ones
 written : List ℕ
@@ -90,13 +94,13 @@ unfoldable pub J : List Step
 unfolding fetches bytesOf window dest written
 J =
     fetches 16 2 2 0 (is (16 ∔ 2 ∷ []))
-    ∷ record { call = ownWrite 0 16 (201 ∷ 202 ∷ []) window; answer = replied (2 ∷ []); bytes = []; records = is (16 ∔ 2 ∷ []); window = is written }
-    ∷ record { call = fetch 0 16 2 dest written; answer = replied (0 ∷ 2 ∷ []); bytes = 16 ∷ 17 ∷ []; records = is (16 ∔ 2 ∷ []); window = unsaid }
+    ∷ calls (record { call = ownWrite 0 16 (201 ∷ 202 ∷ []) window; answer = replied (2 ∷ []); bytes = []; records = is (16 ∔ 2 ∷ []); window = is written })
+    ∷ calls (record { call = fetch 0 16 2 dest written; answer = replied (0 ∷ 2 ∷ []); bytes = 16 ∷ 17 ∷ []; records = is (16 ∔ 2 ∷ []); window = unsaid })
     ∷ []
 
 unfoldable pub situations : List (List Step)
-unfolding A B C D E F G H J
-situations = A ∷ B ∷ C ∷ D ∷ E ∷ F ∷ G ∷ H ∷ J ∷ []
+unfolding A B C D E F G H I J
+situations = A ∷ B ∷ C ∷ D ∷ E ∷ F ∷ G ∷ H ∷ I ∷ J ∷ []
 
 -- every situation passes, from the fresh state and command 0's begin on
 abbrev pub Situations : Type 0

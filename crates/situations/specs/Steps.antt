@@ -1,5 +1,5 @@
 -- How a situation is written down and tested: calls, each with the answer and the delivered bytes that it must give, and with the
--- records of command 0 and the window after it where 01 speaks of them.
+-- records of command 0 and the window after it where 01 speaks of them; and frames, each with what reading it must answer.
 use Prim.Native.Nat.{ℕ}
 use mathlib.Core.List.{List, [], _∷_}
 use mathlib.Core.Bool.{Bool, true, false, _&&_}
@@ -12,6 +12,10 @@ use Rattle.state.specs.Verdict.{Reply, refused, replied, accepted, verdict}
 use Rattle.cache.specs.Begin.{beginSays, beginState, beginStore}
 use Rattle.cache.specs.Fetch.{fetchSays, fetchState, fetchStore, fetchDest}
 use Rattle.cache.specs.OwnWrite.{ownSays, ownWindow}
+use Rattle.frames.specs.Layout.{fieldsOf}
+use Rattle.frames.specs.Kinds.{dataSize}
+use Rattle.frames.specs.Checks.{notZero, zeroBroken}
+use Rattle.frames.specs.Read.{fieldsSay, readSays}
 use Rattle.history.specs.Runs.{Call, Machine, says, after, windowAfter, delivers}
 
 -- what must be so after a step, or nothing said of it
@@ -19,12 +23,16 @@ pub data Expected (A : Type 0) : Type 0 where
   unsaid : Expected A
   is : A → Expected A
 
-pub record Step : Type 0 where
+pub record Made : Type 0 where
   pub call : Call
   pub answer : Reply
   pub bytes : List ℕ
   pub records : Expected (List Record)
   pub window : Expected (List ℕ)
+
+pub data Step : Type 0 where
+  calls : Made → Step
+  reads : (frame : List ℕ) (answer : Reply) → Step
 
 unfoldable pub sameNumbers : List ℕ → List ℕ → Bool
 sameNumbers [] [] = true
@@ -51,9 +59,10 @@ asExpected same (is y) x = same y x
 
 -- does each step give what it must, the machine handed on from one to the next?
 unfoldable pub passes : Machine → List Step → Bool
-unfolding sameNumbers sameAnswer sameRecords asExpected ownWindow beginSays beginState beginStore fetchSays fetchState fetchStore fetchDest ownSays accepted verdict all ascending commandHolds holds total held span countFresh keep lowest highest joined addresses place
+unfolding sameNumbers sameAnswer sameRecords asExpected readSays fieldsSay fieldsOf dataSize notZero zeroBroken ownWindow beginSays beginState beginStore fetchSays fetchState fetchStore fetchDest ownSays accepted verdict all ascending commandHolds holds total held span countFresh keep lowest highest joined addresses place
 passes m [] = true
-passes m (t ∷ ts) =
+passes m (reads frame answer ∷ ts) = sameAnswer answer (readSays frame) && passes m ts
+passes m (calls t ∷ ts) =
     let next = after m (t .call) in
     sameAnswer (t .answer) (says m (t .call)) && sameNumbers (t .bytes) (delivers m (t .call)) && asExpected sameRecords (t .records) (recordsOf (next .state) 0)
     && asExpected sameNumbers (t .window) (windowAfter m (t .call)) && passes next ts

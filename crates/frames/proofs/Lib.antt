@@ -1,0 +1,8 @@
+pub mod Bits
+pub mod Table
+pub mod Heads
+pub mod Zeros
+pub mod Accepted
+pub mod Order
+pub mod Claims
+pub mod Worked

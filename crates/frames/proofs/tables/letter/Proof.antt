@@ -1,0 +1,19 @@
+-- The table computes to the letters of the rows, and past it no kind has a row.
+use native.Mathlib.Omega.{arith}
+use borrow.Author.Needs.{needs}
+use Rattle.frames.specs.Kinds.{kindOf}
+use Rattle.frames.proofs.Table.{at, past}
+use Rattle.frames.proofs.tables.letter.Statement.{statement}
+use Rattle.frames.proofs.tables.letter.Tie as tie
+
+array-read-result : tie.Need-array-read-result
+array-read-result c = search needs
+
+returns : tie.Need-returns
+returns c = at (λ k. kindOf k .letter) 8 (c .before .args .kind) 0 (search needs)
+
+returns-2 : tie.Need-returns-2
+returns-2 c = rw (past (c .before .args .kind) (omega arith))
+
+pub letter-spec : {M : Type 1} → statement M
+letter-spec = tie.close (tie.spec array-read-result returns returns-2)

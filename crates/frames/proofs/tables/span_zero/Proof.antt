@@ -1,0 +1,20 @@
+-- The table computes to the column of the rows, and past it no kind has a row.
+use native.Mathlib.Omega.{arith}
+use mathlib.Core.Bool.{false}
+use borrow.Author.Needs.{needs}
+use Rattle.frames.specs.Kinds.{kindOf}
+use Rattle.frames.proofs.Table.{at, past}
+use Rattle.frames.proofs.tables.span_zero.Statement.{statement}
+use Rattle.frames.proofs.tables.span_zero.Tie as tie
+
+array-read-result : tie.Need-array-read-result
+array-read-result c = search needs
+
+returns : tie.Need-returns
+returns c = at (λ k. kindOf k .spanZero) 8 (c .before .args .kind) false (search needs)
+
+returns-2 : tie.Need-returns-2
+returns-2 c = rw (past (c .before .args .kind) (omega arith))
+
+pub span-zero-spec : {M : Type 1} → statement M
+span-zero-spec = tie.close (tie.spec array-read-result returns returns-2)
