@@ -14,6 +14,8 @@ use Rattle.state.proofs.Verdict.{none-applies, given}
 use Rattle.cache.specs.Begin.{beginSays}
 use Rattle.cache.specs.Fetch.{fetchSays}
 use Rattle.cache.specs.End.{endSays}
+use Rattle.cache.specs.HostWrite.{hostSays}
+use Rattle.cache.specs.OwnWrite.{ownSays}
 
 -- what begin and end have in common
 pub record Ready (s : CacheState) (storeLen c : ℕ) : Type 0 where
@@ -73,3 +75,12 @@ module _ (s : CacheState) (storeLen windowLen destLen c a n : ℕ) (e : accepted
   pub fetched-reply : fetchSays s storeLen windowLen destLen c a n ≡ replied (fresh (recordsOf s c) a n ∷ (n - fresh (recordsOf s c) a n) ∷ [])
   unfolding fetchSays
   fetched-reply = given _ _ e
+
+-- an accepted write lies inside the window
+pub host-inside : (windowLen a n : ℕ) → accepted (hostSays windowLen a n) ≡ true → a + n ≤ windowLen
+unfolding hostSays
+host-inside windowLen a n e = ltb-false _ _ (none-applies _ _ e .1 .1 .0)
+
+pub own-inside : (s : CacheState) (windowLen c a n : ℕ) → accepted (ownSays s windowLen c a n) ≡ true → a + n ≤ windowLen
+unfolding ownSays
+own-inside s windowLen c a n e = ltb-false _ _ (none-applies _ _ e .1 .1 .1 .0)

@@ -1,14 +1,19 @@
 -- 01's end: the command is closed, its part of the store is zeroed, and the reply tells how many records and distinct bytes it
 -- held.
 use Prim.Native.Nat.{ℕ}
+use mathlib.Core.Path.{_≡_}
 use mathlib.Core.List.{List, [], _∷_}
 use mathlib.Core.Bool.{cond}
 use lib.ListN.{length}
 use Rattle.state.specs.declared.CacheState.{CacheState}
 use Rattle.state.specs.Records.{total}
 use Rattle.state.specs.State.{recordsOf, closed, withCommand}
-use Rattle.state.specs.Verdict.{Reply, replied, accepted, Check, verdict}
+use Rattle.state.specs.Refusals.{number}
+use Rattle.state.specs.Verdict.{Reply, refused, replied, accepted, Check, verdict}
 use Rattle.state.specs.Checks.{commandTooHigh, storeWrongSize, stateBroken, commandNotOpen}
+use Rattle.cache.specs.declared.end.EndAnswer.{EndAnswer}
+use Rattle.cache.specs.declared.end.EndAnswer.the-variants.{Done, Refused}
+use Rattle.cache.specs.declared.end.Ended.{Ended}
 use Rattle.cache.specs.Store.{zeroed}
 
 module _ (s : CacheState) (storeLen c : ℕ) where
@@ -24,3 +29,14 @@ module _ (s : CacheState) (storeLen c : ℕ) where
 
 unfoldable pub endStore : CacheState → List ℕ → ℕ → List ℕ
 endStore s store c = cond (accepted (endSays s (length store) c)) (zeroed store c) store
+
+-- what each answer of the code stands for
+abbrev pub endReply : EndAnswer → Reply
+endReply (Done records bytes) = replied (records ∷ bytes ∷ [])
+endReply (Refused r) = refused (number r)
+
+-- the call: its answer, the state and the store after it
+pub record Ends (s : CacheState) (store : List ℕ) (c : ℕ) (r : Ended) (store′ : List ℕ) : Type 0 where
+  pub answer : endReply (r .answer) ≡ endSays s (length store) c
+  pub state : r .state ≡ endState s (length store) c
+  pub bytes : store′ ≡ endStore s store c

@@ -4,8 +4,11 @@ use mathlib.Core.List.{List, [], _∷_}
 use lib.ListN.{getD}
 use Rattle.state.specs.declared.CacheState.{CacheState}
 use Rattle.state.specs.State.{recordsOf, noRecord}
-use Rattle.state.specs.Verdict.{Reply, replied, Check, verdict}
+use Rattle.state.specs.Refusals.{number}
+use Rattle.state.specs.Verdict.{Reply, refused, replied, Check, verdict}
 use Rattle.state.specs.Checks.{commandTooHigh, stateBroken, commandNotOpen, noSuchRecord}
+use Rattle.cache.specs.declared.show.ShowAnswer.{ShowAnswer}
+use Rattle.cache.specs.declared.show.ShowAnswer.the-variants.{Record, Refused}
 
 module _ (s : CacheState) (c i : ℕ) where
   -- 6, 20, 21, 25
@@ -14,3 +17,8 @@ module _ (s : CacheState) (c i : ℕ) where
 
   unfoldable pub showSays : Reply
   showSays = let r = getD (recordsOf s c) i noRecord in verdict showChecks (replied (r .start ∷ r .len ∷ []))
+
+-- what each answer of the code stands for
+abbrev pub showReply : ShowAnswer → Reply
+showReply (Record start len) = replied (start ∷ len ∷ [])
+showReply (Refused r) = refused (number r)

@@ -1,1 +1,10 @@
-// The six calls of the fetch cache, as definitions: what each answers, and what it leaves in the state and in every buffer.
+// The calls of the fetch cache, a module each. A call takes any state, any buffers and any numbers, and answers with what it did or
+// with the refusal of the lowest number that applies. Definitions in specs/ say what each answers and leaves; fetch is a definition
+// so far.
+pub mod begin;
+pub mod end;
+pub mod host_write;
+pub mod own_write;
+mod part;
+mod range;
+pub mod show;

@@ -2,7 +2,7 @@
 use Prim.Native.Nat.{ℕ, suc, _+_, _-_, _≤_, _<_, min}
 use native.Mathlib.Omega.{arith}
 use native.Mathlib.Nat.{zero-add, add-zero}
-use mathlib.Core.Path.{_≡_, ap, subst, _∙_}
+use mathlib.Core.Path.{_≡_, ap, subst, sym, _∙_}
 use mathlib.Core.List.{List, [], _∷_, _++_, append-nil, append-assoc}
 use lib.ListN.{length, take, drop, getD, set, length-append, length-take, length-drop, take-append-drop, List·getD-append}
 use lib.Seq.{length-take-le, take-at, drop-at, take-add, take-suc, drop-drop, drop-append-le, set-at, paste, getD-take, getD-drop, ext-getD}
@@ -92,3 +92,9 @@ overwrite-more buffer bytes at x inside =
     let next : suc at + length bytes ≡ at + suc (length bytes) = omega arith in
     simp (take-suc buffer at 0 inside, append-assoc)
     (set-at (take at buffer) (getD buffer at 0) (bytes ++ rest) x at (length-take-le at buffer (omega arith)) ∙ rw next)
+
+-- for a middle part that was lent: what it holds when it is given back is written to the whole
+pub overwrite-mid : (buffer bytes : List ℕ) (at n : ℕ) → length bytes ≡ n → take at buffer ++ (bytes ++ drop n (drop at buffer)) ≡ overwrite buffer at bytes
+overwrite-mid buffer bytes at n size =
+    sym (append-assoc (take at buffer) bytes (drop n (drop at buffer)))
+    ∙ ap (λ (l : List ℕ). take at buffer ++ bytes ++ l) (drop-drop n at buffer ∙ ap (λ (k : ℕ). drop (at + k) buffer) (sym size))

@@ -1,7 +1,7 @@
 -- What a verdict tells: an accepted call's checks are all false, and where the numbers ascend the lowest that applies is given.
 use Prim.Native.Nat.{ℕ, _≤_, _<_}
 use native.Mathlib.Omega.{arith}
-use mathlib.Core.Path.{_≡_, refl}
+use mathlib.Core.Path.{_≡_, refl, ap, sym, _∙_}
 use mathlib.Core.Logic.{_≢_}
 use mathlib.Core.List.{List, [], _∷_}
 use mathlib.Core.Bool.{Bool, true, false, false≢true, cond, not, _&&_}
@@ -70,3 +70,22 @@ never-given k (c ∷ cs) ns h = go (c .applies) refl (and-left (not (eqb (c .num
         let is : c .number ≡ k = cc in
         false≢true (rw (a, eq-eqb (c .number) k is) at t)
     go false a t ih e = ih (rw a at e)
+
+-- a verdict told check by check, as code that goes through the checks tells it
+module _ (b : Bool) (n : ℕ) (cs : List Check) (reply : Reply) where
+  pub verdict-stops : b ≡ true → refused n ≡ verdict (b ⇒ n ∷ cs) reply
+  unfolding verdict
+  verdict-stops e = rw e
+
+  pub verdict-goes-on : b ≡ false → {r : Reply} → r ≡ verdict cs reply → r ≡ verdict (b ⇒ n ∷ cs) reply
+  unfolding verdict
+  verdict-goes-on e h = rw e h
+
+-- what is said, from an answer that stands for it and the case that the answer is
+pub says-of : {A : Type 0} (f : A → Reply) {x y : A} {says : Reply} → f x ≡ says → x ≡ y → says ≡ f y
+says-of f e h = sym e ∙ ap f h
+
+-- past the last check the reply is given
+pub verdict-gives : {reply r : Reply} → r ≡ reply → r ≡ verdict [] reply
+unfolding verdict
+verdict-gives e = e

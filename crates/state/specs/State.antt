@@ -15,9 +15,13 @@ use Rattle.state.specs.Records.{past, total}
 abbrev pub noRecord : Record
 noRecord = record { start = 0; len = 0 }
 
+-- a command that holds nothing
+abbrev pub empty : Bool → CommandState
+empty opened = record { opened = opened; count = 0; records = replicate recordLimit noRecord }
+
 -- a command that is not open
 abbrev pub closed : CommandState
-closed = record { opened = false; count = 0; records = replicate recordLimit noRecord }
+closed = empty false
 
 -- an open command with these records
 abbrev pub open-with : List Record → CommandState

@@ -1,7 +1,7 @@
 // The state of the fetch cache: which commands are open, and which host bytes each of them holds.
 ghost use mathlib.Core.Path.{_≡_};
 ghost use Rattle.state.specs.Limits.{limits};
-ghost use Rattle.state.specs.State.{freshState};
+ghost use Rattle.state.specs.State.{empty, freshState};
 
 mod holds;
 mod join;
@@ -70,14 +70,23 @@ impl CacheState {
     pub fn fresh() -> CacheState
         ensures { λ r. ⌜ r ≡ freshState ⌝ }
     {
-        let unused = Record { start: 0, len: 0 };
-        let closed = CommandState {
-            opened: false,
-            count: 0,
-            records: [unused; CacheState::RECORDS],
-        };
+        let closed = CommandState::empty(false);
         CacheState {
             commands: [closed; CacheState::COMMANDS],
+        }
+    }
+}
+
+impl CommandState {
+    // A command that holds nothing.
+    pub fn empty(opened: bool) -> CommandState
+        ensures { λ r. ⌜ r ≡ empty opened ⌝ }
+    {
+        let unused = Record { start: 0, len: 0 };
+        CommandState {
+            opened,
+            count: 0,
+            records: [unused; CacheState::RECORDS],
         }
     }
 }

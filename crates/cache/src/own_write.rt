@@ -1,0 +1,59 @@
+// Own write: the same by an open command. The state is only looked at.
+ghost use mathlib.Core.Path.{_≡_};
+ghost use lib.ListN.{length};
+ghost use Rattle.cache.specs.HostWrite.{writeReply};
+ghost use Rattle.cache.specs.OwnWrite.{ownSays, ownWindow};
+use crate::host_write::WriteAnswer;
+use crate::range;
+use state::CacheState;
+use state::Refusal;
+
+fn judge(
+    state: CacheState,
+    window_len: usize,
+    command: usize,
+    address: usize,
+    size: usize,
+) -> WriteAnswer
+    ensures { λ r. ⌜ writeReply r ≡ ownSays state «window_len» command address size ⌝ }
+{
+    if CacheState::TRANSFER < size {
+        return WriteAnswer::Refused(Refusal::LengthTooLong);
+    }
+    if CacheState::COMMANDS <= command {
+        return WriteAnswer::Refused(Refusal::CommandTooHigh);
+    }
+    if CacheState::WINDOW < window_len {
+        return WriteAnswer::Refused(Refusal::WindowTooLong);
+    }
+    if range::outside(window_len, address, size) {
+        return WriteAnswer::Refused(Refusal::OutsideWindow);
+    }
+    if !state.holds() {
+        return WriteAnswer::Refused(Refusal::StateBroken);
+    }
+    let c = state.commands[command];
+    let opened = c.opened;
+    if !opened {
+        return WriteAnswer::Refused(Refusal::CommandNotOpen);
+    }
+    WriteAnswer::Done(size)
+}
+
+pub fn own_write(
+    state: CacheState,
+    window: &mut [u8],
+    command: usize,
+    address: usize,
+    bytes: &[u8],
+) -> WriteAnswer
+    ensures reply { λ r. ⌜ writeReply r ≡ ownSays state (length (now (window .entry))) command address (length (now (bytes .entry))) ⌝ }
+    ensures window { λ _. ⌜ now (window .exit) ≡ ownWindow state (now (window .entry)) command address (now (bytes .entry)) ⌝ }
+{
+    let answer = judge(state, window.len(), command, address, bytes.len());
+    let WriteAnswer::Done(_) = answer else {
+        return answer;
+    };
+    octets::copy_at(window, address, bytes);
+    answer
+}
