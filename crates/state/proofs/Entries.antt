@@ -14,7 +14,7 @@ use Rattle.state.specs.declared.CommandState.{CommandState}
 use Rattle.state.specs.declared.join.Meeting.{Meeting}
 use Rattle.state.specs.Limits.{recordLimit, windowLimit}
 use Rattle.state.specs.Records.{total, place, fresh, joined}
-use Rattle.state.specs.State.{noRecord, open-with, recordsIn}
+use Rattle.state.specs.State.{noRecord, open-with, recordsIn, ascending}
 use Rattle.state.specs.Join.{unionOf, entryAfter, meeting, spliced, Room}
 use Rattle.state.proofs.Commands.{kept-command, open-with-padded, length-open-with}
 use Rattle.state.proofs.Merge.{between}
@@ -48,6 +48,20 @@ module _ (rs : List Record) (i j : ℕ) (u : Record) (order : i ≤ length rs) w
       ap (λ (n : ℕ). getD put n noRecord) (omega arith)
       ∙ getD-past (take i rs) (u ∷ drop j rs) i (suc (k - suc i)) noRecord (length-take-le i rs order)
       ∙ getD-drop j rs (k - suc i) noRecord
+
+-- what 23 and 24 are judged by
+module _ (rs : List Record) (a n : ℕ) (up : ascending 0 rs ≡ true) where
+  pub fresh-found : meeting rs a (a + suc n) .high - meeting rs a (a + suc n) .low - meeting rs a (a + suc n) .held ≡ fresh rs a (suc n)
+  fresh-found = omega (arith, found rs a n up .counts)
+
+  pub count-found : meeting rs a (a + suc n) .first + 1 + (length rs - meeting rs a (a + suc n) .last) ≡ length (joined rs a (suc n))
+  count-found =
+      let m = meeting rs a (a + suc n) in
+      let F = found rs a n up in
+      sym (
+      ap length (F .joins)
+      ∙ simp (length-append, length-take-le (m .first) rs (omega (arith, F .order, F .most)), length-drop) (omega arith)
+      )
 
 module _ (p : CommandState) (a n : ℕ) (R : Room p a (suc n)) where
   abbrev rs : List Record
@@ -98,9 +112,7 @@ module _ (p : CommandState) (a n : ℕ) (R : Room p a (suc n)) where
   spliced-joined = sym (is-spliced p m true (length (joined rs a (suc n))) (open-with (joined rs a (suc n)) .records) (sym (R .opened)) count entries)
     where
       count : length (joined rs a (suc n)) ≡ m .first + 1 + (length rs - m .last)
-      count =
-          ap length (F .joins)
-          ∙ simp (length-append, length-take-le (m .first) rs (omega (arith, F .order, F .most)), length-drop) (omega arith)
+      count = sym (count-found rs a n (kept-command p (R .whole) .up))
 
       at-each : (k : ℕ) → k < length (open-with (joined rs a (suc n)) .records) → getD (open-with (joined rs a (suc n)) .records) k noRecord ≡ getD (wanted p m) k noRecord
       at-each k h =
@@ -110,9 +122,6 @@ module _ (p : CommandState) (a n : ℕ) (R : Room p a (suc n)) where
 
       entries : open-with (joined rs a (suc n)) .records ≡ wanted p m
       entries = ext-getD noRecord (open-with (joined rs a (suc n)) .records) (wanted p m) (length-open-with (joined rs a (suc n)) (R .few) ∙ sym (wanted-size p m)) at-each
-
-  pub fresh-found : m .high - m .low - m .held ≡ fresh rs a (suc n)
-  fresh-found = omega (arith, F .counts)
 
   pub place-found : m .below + min (a - m .low) windowLimit ≡ place (joined rs a (suc n)) a
   place-found =

@@ -70,13 +70,18 @@ pub record Room (p : CommandState) (a n : ℕ) : Type 0 where
   pub bytes : total (recordsIn p) + fresh (recordsIn p) a n ≤ heldLimit
   pub few : length (joined (recordsIn p) a n) ≤ recordLimit
 
--- What join gives: where there is room, 01's fresh, the place of the span's first address among the packed bytes, and the records
--- joined.
-pub record Joined (p : CommandState) (a n : ℕ) (r : Join) : Type 0 where
+-- What join gives of a command that holds together: 01's fresh, and the number of records after joining, by which 23 and 24 are
+-- judged.
+pub record Judged (p : CommandState) (a n : ℕ) (r : Join) : Type 0 where
   pub fresh : r .fresh ≡ fresh (recordsIn p) a n
+  pub count : r .command .count ≡ length (joined (recordsIn p) a n)
+
+-- And where there is room: the place of the span's first address among the packed bytes, and the records joined.
+pub record Joined (p : CommandState) (a n : ℕ) (r : Join) : Type 0 where
   pub place : r .place ≡ place (joined (recordsIn p) a n) a
   pub records : r .command ≡ open-with (joined (recordsIn p) a n)
 
 pub record Joins (p : CommandState) (a e : ℕ) (r : Join) : Type 0 where
   pub is : r ≡ join p a e
+  pub judged : (n : ℕ) → e ≡ a + suc n → commandHolds p ≡ true → Judged p a (suc n) r
   pub room : (n : ℕ) → e ≡ a + suc n → Room p a (suc n) → Joined p a (suc n) r

@@ -3,12 +3,14 @@ use Prim.Native.Nat.{ℕ, suc, _+_, _-_, min}
 use mathlib.Core.Path.{_≡_, ap, sym, subst, _∙_}
 use lib.ListN.{length}
 use borrow.Author.Needs.{needs}
+use Rattle.state.specs.declared.CommandState.{CommandState}
 use Rattle.state.specs.declared.join.Meeting.{Meeting}
 use Rattle.state.specs.Limits.{windowLimit}
 use Rattle.state.specs.State.{recordsIn}
 use Rattle.state.specs.Join.{meeting, spliced, join}
 use Rattle.state.proofs.Search.{Ordered, meeting-ordered}
-use Rattle.state.proofs.Entries.{spliced-joined, fresh-found, place-found}
+use Rattle.state.proofs.Entries.{fresh-found, count-found, spliced-joined, place-found}
+use Rattle.state.proofs.Commands.{kept-command}
 use Rattle.state.proofs.CommandState.join.Statement.{statement}
 use Rattle.state.proofs.CommandState.join.Tie as tie
 
@@ -38,7 +40,7 @@ spliced-requires c κs =
     (o .first, o .last)
 
 returns : tie.Need-returns
-unfolding join
+unfolding join spliced
 returns c =
     let p = c .before .before .before .before .before .before .before .args .self in
     let a = c .before .before .before .before .before .before .before .args .address in
@@ -53,8 +55,11 @@ returns c =
     in
     record {
       is = λ i. record { meeting = met i; fresh = fresh i; place = place i; command = put i };
+      judged = λ n e whole. record {
+        fresh = fresh ∙ ap (λ (k : Meeting). k .high - k .low - k .held) (here n e) ∙ fresh-found (recordsIn p) a n (kept-command p whole .up);
+        count = ap (λ (q : CommandState). q .count) (put ∙ ap (spliced p) (here n e)) ∙ count-found (recordsIn p) a n (kept-command p whole .up);
+      };
       room = λ n e R. record {
-        fresh = fresh ∙ ap (λ (k : Meeting). k .high - k .low - k .held) (here n e) ∙ fresh-found p a n R;
         place = place ∙ ap (λ (k : Meeting). k .below + min (a - k .low) windowLimit) (here n e) ∙ place-found p a n R;
         records = put ∙ ap (spliced p) (here n e) ∙ spliced-joined p a n R;
       };
