@@ -1,5 +1,6 @@
 pub mod Store
 pub mod Begin
+pub mod Hold
 pub mod Fetch
 pub mod End
 pub mod HostWrite

@@ -1,21 +1,21 @@
 -- A refused call, and a fetch of length 0, leave everything as it was given.
-use Prim.Native.Nat.{ℕ, _+_, _≤_}
+use Prim.Native.Nat.{ℕ}
 use native.Mathlib.Omega.{arith}
-use mathlib.Core.Path.{_≡_, refl, ap, sym, _∙_}
+use mathlib.Core.Path.{_≡_, refl, sym, _∙_}
 use mathlib.Core.List.{List}
 use mathlib.Core.Bool.{Bool, true, false, false≢true}
-use lib.ListN.{length, getD}
+use lib.ListN.{length}
 use Rattle.octets.specs.Lists.{overwrite}
-use Rattle.octets.proofs.Overwrite.{overwrite-same, overwrite-none}
-use Rattle.state.specs.Records.{place, span, total, countFresh, joined}
+use Rattle.octets.proofs.Overwrite.{overwrite-none}
+use Rattle.state.specs.Records.{span, countFresh, joined}
 use Rattle.state.specs.State.{hasShape}
 use Rattle.state.specs.Verdict.{accepted}
-use Rattle.state.proofs.Laws.{packed-back, map-held}
 use Rattle.state.proofs.Commands.{kept, command-kept, open-with-own}
-use Rattle.cache.specs.Store.{partStart, sees}
+use Rattle.cache.specs.Store.{partStart}
 use Rattle.cache.specs.Fetch.{fetchDest}
 use Rattle.cache.specs.HostWrite.{hostWindow}
 use Rattle.cache.specs.OwnWrite.{ownWindow}
+use Rattle.cache.proofs.Parts.{own-bytes}
 use Rattle.cache.proofs.Accepted.{Fetched, fetched, fetched-reply}
 use Rattle.history.specs.Runs.{Call, begin, fetch, end, hostWrite, ownWrite, show, Machine, says, after, destGiven, destAfter, windowGiven, windowAfter}
 use Rattle.history.specs.Claims.{RefusedUnchanged, Empty, EmptyFetch}
@@ -54,10 +54,7 @@ module _ (m : Machine) (c a : ℕ) (dest window : List ℕ) (shape : hasShape (m
   unfolding joined
   packed-same =
       let K = kept (m .state) c (F .whole) in
-      let fits : partStart c + total (old m c) ≤ length (m .store) = omega (arith, K .small, F .command, F .size) in
-      let stand = packed-back (m .store) (partStart c) 0 (old m c) (K .up) fits in
-      let read = map-held (sees (old m c) c (m .store) window) (λ x. getD (m .store) (partStart c + place (old m c) x) 0) (old m c) (λ x h. rw h) in
-      ap (overwrite (m .store) (partStart c)) (read ∙ stand) ∙ overwrite-same (m .store) (partStart c) (total (old m c)) fits
+      own-bytes (old m c) c (m .store) window (K .up) (omega (arith, K .small, F .command, F .size))
 
   dest-same : destAfter m (fetch c a 0 dest window) ≡ dest
   unfolding fetchDest span

@@ -2,7 +2,7 @@
 use Prim.Native.Nat.{ℕ, suc, _+_, _-_, _≤_, _<_, min}
 use native.Mathlib.Omega.{arith}
 use native.Mathlib.Nat.{zero-add, add-zero}
-use mathlib.Core.Path.{_≡_, ap, subst, sym, _∙_}
+use mathlib.Core.Path.{_≡_, ap, ap₂, subst, sym, _∙_}
 use mathlib.Core.List.{List, [], _∷_, _++_, append-nil, append-assoc}
 use lib.ListN.{length, take, drop, getD, set, length-append, length-take, length-drop, take-append-drop, List·getD-append}
 use lib.Seq.{length-take-le, take-at, drop-at, take-add, take-suc, drop-drop, drop-append-le, set-at, paste, getD-take, getD-drop, ext-getD}
@@ -98,3 +98,18 @@ pub overwrite-mid : (buffer bytes : List ℕ) (at n : ℕ) → length bytes ≡ 
 overwrite-mid buffer bytes at n size =
     sym (append-assoc (take at buffer) bytes (drop n (drop at buffer)))
     ∙ ap (λ (l : List ℕ). take at buffer ++ bytes ++ l) (drop-drop n at buffer ∙ ap (λ (k : ℕ). drop (at + k) buffer) (sym size))
+
+-- bytes written just before those written last
+pub overwrite-on : (buffer b c : List ℕ) (at : ℕ) → at + length b + length c ≤ length buffer → overwrite (overwrite buffer (at + length b) c) at b ≡ overwrite buffer at (b ++ c)
+overwrite-on buffer b c at fits =
+    let up = at + length b in
+    let rest = drop (up + length c) buffer in
+    let pre : take at (overwrite buffer up c) ≡ take at buffer =
+    simp (append-assoc, take-add at (length b) buffer) (take-at (take at buffer) (take (length b) (drop at buffer) ++ (c ++ rest)) at (length-take-le at buffer (omega arith))) in
+    let post : drop up (overwrite buffer up c) ≡ c ++ rest = rw append-assoc (drop-at (take up buffer) (c ++ rest) up (length-take-le up buffer (omega arith))) in
+    let size : at + length (b ++ c) ≡ up + length c = omega (arith, length-append b c) in
+    ap₂ (λ (x y : List ℕ). x ++ b ++ y) pre post ∙ simp (append-assoc, size)
+
+-- what stands before the bytes stays as it was, also a part of it
+pub part-before : (buffer bytes : List ℕ) (at from n : ℕ) → at + length bytes ≤ length buffer → from + n ≤ at → part (overwrite buffer at bytes) from n ≡ part buffer from n
+part-before buffer bytes at from n fits h = part-beside buffer bytes at fits from n (λ i k. overwrite-below buffer bytes at fits (from + i) 0 (omega arith))

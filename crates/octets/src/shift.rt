@@ -13,6 +13,10 @@ pub fn move_up(buffer: &mut [u8], from: usize, count: usize, by: usize)
     if buffer.len() < from {
         return;
     }
+    // bytes that stay in their place cost nothing
+    if by == 0 {
+        return;
+    }
     let above = buffer.len() - from;
     if above < by {
         return;

@@ -77,9 +77,12 @@ kept-command p h =
       unused = and-right (few && up && small) unused h4;
     }
 
-pub kept : (s : CacheState) (c : ℕ) → holds s ≡ true → Kept (commandOf s c)
+pub each-holds : (s : CacheState) (c : ℕ) → holds s ≡ true → commandHolds (commandOf s c) ≡ true
 unfolding holds
-kept s c h = kept-command (commandOf s c) (all-at commandHolds (s .commands) c closed h closed-holds)
+each-holds s c h = all-at commandHolds (s .commands) c closed h closed-holds
+
+pub kept : (s : CacheState) (c : ℕ) → holds s ≡ true → Kept (commandOf s c)
+kept s c h = kept-command (commandOf s c) (each-holds s c h)
 
 -- Shape
 

@@ -63,7 +63,7 @@ module _ (rs : List Record) (a n : ℕ) (up : ascending 0 rs ≡ true) where
       ∙ simp (length-append, length-take-le (m .first) rs (omega (arith, F .order, F .most)), length-drop) (omega arith)
       )
 
-module _ (p : CommandState) (a n : ℕ) (R : Room p a (suc n)) where
+module _ (p : CommandState) (a n : ℕ) (R : Room p a (suc n)) (size : length (p .records) ≡ recordLimit) where
   abbrev rs : List Record
   rs = recordsIn p
 
@@ -90,7 +90,7 @@ module _ (p : CommandState) (a n : ℕ) (R : Room p a (suc n)) where
     where
       own : (i : ℕ) → getD (p .records) i noRecord ≡ getD rs i noRecord
       own i =
-          ap (λ (l : List Record). getD l i noRecord) (open-with-padded p (kept-command p (R .whole)) (R .size))
+          ap (λ (l : List Record). getD l i noRecord) (open-with-padded p (kept-command p (R .whole)) size)
           ∙ padded rs (recordLimit - length rs) i noRecord
 
       inside : m .first ≤ length rs

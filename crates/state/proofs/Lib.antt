@@ -11,3 +11,4 @@ pub mod Splice
 pub mod Found
 pub mod Entries
 pub mod Packed
+pub mod Cut

@@ -9,23 +9,21 @@ use lib.ListN.{length, take, drop, getD, length-map, length-drop, take-append-dr
 use lib.Seq.{take-at, drop-at, take-add, length-take-le}
 use Rattle.state.specs.declared.Record.{Record}
 use Rattle.state.specs.declared.join.Meeting.{Meeting}
-use Rattle.state.specs.Records.{held, span, addresses, total, place, joined}
+use Rattle.state.specs.Records.{held, span, addresses, total, place}
 use Rattle.state.specs.State.{ascending}
-use Rattle.state.proofs.Merge.{between}
+use Rattle.state.specs.Join.{replaced}
 use Rattle.state.proofs.Laws.{length-addresses, map-held, packed-back, addresses-append, total-append}
-use Rattle.state.proofs.Found.{Found}
 
 -- the bytes of the joined records: before the union, within it, and behind it
-pub packed-joined :
-    (f : ℕ → ℕ) (rs : List Record) (a n : ℕ) (m : Meeting) → Found rs a n m
-    → map f (addresses (joined rs a n)) ≡ map f (addresses (take (m .first) rs)) ++ (map f (span (m .low) (m .high - m .low)) ++ map f (addresses (drop (m .last) rs)))
+pub packed-replaced :
+    (f : ℕ → ℕ) (rs : List Record) (m : Meeting)
+    → map f (addresses (replaced rs m)) ≡ map f (addresses (take (m .first) rs)) ++ (map f (span (m .low) (m .high - m .low)) ++ map f (addresses (drop (m .last) rs)))
 unfolding addresses
-packed-joined f rs a n m F =
+packed-replaced f rs m =
     let front = addresses (take (m .first) rs) in
     let middle = span (m .low) (m .high - m .low) in
     let back = addresses (drop (m .last) rs) in
-    ap (λ (l : List Record). map f (addresses l)) (F .joins)
-    ∙ ap (map f) (addresses-append (take (m .first) rs) (between (m .low) (m .high) ∷ drop (m .last) rs))
+    ap (map f) (addresses-append (take (m .first) rs) (record { start = m .low; len = m .high - m .low } ∷ drop (m .last) rs))
     ∙ map-append f front (middle ++ back) ∙ ap (λ (l : List ℕ). map f front ++ l) (map-append f middle back)
 
 module _ (f : ℕ → ℕ) (l : List ℕ) (k : ℕ) (rs : List Record) (up : ascending 0 rs ≡ true) (fits : k + total rs ≤ length l)

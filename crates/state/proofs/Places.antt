@@ -4,7 +4,7 @@ use mathlib.Core.Path.{_≡_, refl, sym, ap, _∙_}
 use mathlib.Core.List.{List, [], _∷_, _++_, map}
 use mathlib.Core.Bool.{Bool, true, false, cond}
 use native.Mathlib.Omega.{arith}
-use native.Mathlib.Nat.{add-zero, zero-add, suc-add, not-suc-le-zero}
+use native.Mathlib.Nat.{add-zero, add-suc, zero-add, suc-add, not-suc-le-zero}
 use lib.ListN.{length, take, drop, getD}
 use lib.Seq.{drop-cons}
 use Rattle.state.specs.declared.Record.{Record}
@@ -78,6 +78,11 @@ unfolding span
 length-span a zero = refl
 length-span a (suc n) = ap suc (length-span (suc a) n)
 
+pub span-append : (a m n : ℕ) → span a (m + n) ≡ span a m ++ span (a + m) n
+unfolding span
+span-append a zero n = rw (zero-add, add-zero)
+span-append a (suc m) n = rw (suc-add, add-suc, ← suc-add a m) (ap (λ (l : List ℕ). a ∷ l) (span-append (suc a) m n))
+
 pub span-at : {A : Type 0} (f : ℕ → A) (d : A) (a n : ℕ) (rest : List ℕ) (i : ℕ) → i < n → getD (map f (span a n ++ rest)) i d ≡ f (a + i)
 unfolding span
 span-at f d a zero rest i h = absurd (not-suc-le-zero h)
@@ -107,7 +112,7 @@ map-read f l k a (suc n) fits same =
     (map-read f l (suc k) (suc a) n (omega arith) (λ i h. ap f (omega arith) ∙ same (suc i) (omega arith) ∙ ap (λ (j : ℕ). getD l j 0) (omega arith))))
 
 -- the place of an address in a record in the middle of an ascending list
-middle-above : (lo : ℕ) (xs : List Record) (u : Record) (ys : List Record) → ascending lo (xs ++ u ∷ ys) ≡ true → lo ≤ u .start
+pub middle-above : (lo : ℕ) (xs : List Record) (u : Record) (ys : List Record) → ascending lo (xs ++ u ∷ ys) ≡ true → lo ≤ u .start
 middle-above lo [] u ys up = ascends lo u ys up .from
 middle-above lo (r ∷ xs) u ys up =
     let v = ascends lo r (xs ++ u ∷ ys) up in
@@ -124,3 +129,11 @@ place-middle lo (r ∷ xs) u ys x up h k =
     let v = ascends lo r (xs ++ u ∷ ys) up in
     let below = middle-above (past r) xs u ys (v .rest) in
     omega (arith, place-all r x (omega arith), place-middle (past r) xs u ys x (v .rest) h k)
+
+-- the places of held addresses side by side are side by side
+pub place-along : (lo : ℕ) (rs : List Record) (a n : ℕ) → ascending lo rs ≡ true → ((i : ℕ) → i < n → held rs (a + i) ≡ true) → place rs (a + n) ≡ place rs a + n
+place-along lo rs a zero up h = ap (place rs) (add-zero a) ∙ sym (add-zero (place rs a))
+place-along lo rs a (suc n) up h =
+    let last : _≡_ {A = ℕ} (cond (held rs (a + n)) 1 0) 1 = rw (h n (omega arith)) in
+    let next : place rs (a + suc n) ≡ place rs (suc (a + n)) = ap (place rs) (add-suc a n) in
+    omega (arith, place-along lo rs a n up (λ i k. h i (omega arith)), place-suc lo rs (a + n) up)

@@ -3,7 +3,7 @@ use Prim.Native.Nat.{ℕ, _≤_, _<_}
 use native.Mathlib.Omega.{arith}
 use mathlib.Core.Path.{_≡_, refl, ap, sym, _∙_}
 use mathlib.Core.Logic.{_≢_}
-use mathlib.Core.List.{List, [], _∷_}
+use mathlib.Core.List.{List, [], _∷_, _++_}
 use mathlib.Core.Bool.{Bool, true, false, false≢true, cond, not, _&&_}
 use lib.Dec.{ltb, eqb}
 use borrow.Author.Tests.{ltb-true, eq-eqb}
@@ -89,3 +89,19 @@ says-of f e h = sym e ∙ ap f h
 pub verdict-gives : {reply r : Reply} → r ≡ reply → r ≡ verdict [] reply
 unfolding verdict
 verdict-gives e = e
+
+-- two lists of checks, one after the other: the second is looked at where none of the first applies
+module _ (ds : List Check) (k reply : Reply) where
+  pub verdict-passes : (cs : List Check) → accepted (verdict cs k) ≡ true → verdict (cs ++ ds) reply ≡ verdict ds reply
+  unfolding verdict
+  verdict-passes [] e = refl
+  verdict-passes (c ∷ cs) e = let h = clear (c .applies) (c .number) cs k e in rw (h .0) (verdict-passes cs (h .1))
+
+pub verdict-bars : (cs ds : List Check) (ns : List ℕ) (reply : Reply) (n : ℕ) → verdict cs (replied ns) ≡ refused n → verdict (cs ++ ds) reply ≡ refused n
+unfolding verdict accepted
+verdict-bars [] ds ns reply n e = absurd (false≢true (sym (ap accepted e)))
+verdict-bars (c ∷ cs) ds ns reply n e = go (c .applies) refl (verdict-bars cs ds ns reply n)
+  where
+    go : (b : Bool) → c .applies ≡ b → (verdict cs (replied ns) ≡ refused n → verdict (cs ++ ds) reply ≡ refused n) → verdict (c ∷ cs ++ ds) reply ≡ refused n
+    go true a ih = rw a (rw a at e)
+    go false a ih = rw a (ih (rw a at e))

@@ -12,7 +12,7 @@ use borrow.Author.Tests.{eqb-true}
 use Rattle.octets.specs.Lists.{all}
 use Rattle.state.specs.declared.Record.{Record}
 use Rattle.state.specs.declared.CommandState.{CommandState}
-use Rattle.state.specs.State.{noRecord, recordsIn, isZero, commandHolds}
+use Rattle.state.specs.State.{noRecord, recordsIn, isZero}
 
 -- of any list
 next : {A : Type 0} (l : List A) (i : ℕ) (d : A) → i < length l → drop i l ≡ getD l i d ∷ drop (i + 1) l
@@ -52,15 +52,15 @@ module _ (entries : List Record) (i : ℕ) (h : i < length entries) {z : Bool} (
   unfolding all
   entry-unused a b = rw (a, b) at zeros-left
 
--- The same for the commands of a state.
+-- The same for a test on the commands of a state.
 
-module _ (commands : List CommandState) (c : ℕ) (d : CommandState) (h : c < length commands) {z : Bool} (e : all commandHolds (drop c commands) ≡ z) where
-  commands-left : (commandHolds (getD commands c d) && all commandHolds (drop (c + 1) commands)) ≡ z
+module _ (test : CommandState → Bool) (commands : List CommandState) (c : ℕ) (d : CommandState) (h : c < length commands) {z : Bool} (e : all test (drop c commands) ≡ z) where
+  commands-left : (test (getD commands c d) && all test (drop (c + 1) commands)) ≡ z
   unfolding all
-  commands-left = sym (ap (all commandHolds) (next commands c d h)) ∙ e
+  commands-left = sym (ap (all test) (next commands c d h)) ∙ e
 
-  pub command-fails : commandHolds (getD commands c d) ≡ false → false ≡ z
+  pub command-fails : test (getD commands c d) ≡ false → false ≡ z
   command-fails k = rw k at commands-left
 
-  pub command-next : commandHolds (getD commands c d) ≡ true → all commandHolds (drop (c + 1) commands) ≡ z
+  pub command-next : test (getD commands c d) ≡ true → all test (drop (c + 1) commands) ≡ z
   command-next k = rw k at commands-left

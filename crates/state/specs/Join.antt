@@ -3,10 +3,10 @@
 -- `joined`.
 use Prim.Native.Nat.{ℕ, suc, _+_, _-_, _%_, _≤_, min, max}
 use mathlib.Core.Path.{_≡_}
-use mathlib.Core.List.{List, [], _∷_, map}
+use mathlib.Core.List.{List, [], _∷_, _++_, map}
 use mathlib.Core.Bool.{true, false, cond}
 use lib.Dec.{ltb, leb, eqb}
-use lib.ListN.{length, getD}
+use lib.ListN.{length, take, drop, getD}
 use Rattle.state.specs.declared.Record.{Record}
 use Rattle.state.specs.declared.CommandState.{CommandState}
 use Rattle.state.specs.declared.join.Meeting.{Meeting}
@@ -14,6 +14,7 @@ use Rattle.state.specs.declared.join.Join.{Join}
 use Rattle.state.specs.Limits.{recordLimit, heldLimit, windowLimit}
 use Rattle.state.specs.Records.{past, span, total, place, fresh, joined}
 use Rattle.state.specs.State.{noRecord, open-with, recordsIn, commandHolds}
+use Rattle.state.specs.Cut.{Cut}
 
 -- a record that lies before the span, and one that meets it and widens the union
 abbrev pub moved : Record → Meeting → Meeting
@@ -60,26 +61,33 @@ join p a e =
     let m = meeting (recordsIn p) a e in
     record { meeting = m; fresh = m .high - m .low - m .held; place = m .below + min (a - m .low) windowLimit; command = spliced p m }
 
+-- the records with the union in the place of those that were met
+abbrev pub replaced : List Record → Meeting → List Record
+replaced rs m = take (m .first) rs ++ record { start = m .low; len = m .high - m .low } ∷ drop (m .last) rs
+
 -- Where there is room for the span: the command is open and holds together, and the span ends where addresses do, its fresh bytes
 -- leave the total within bounds, and so do the joined records their number.
 pub record Room (p : CommandState) (a n : ℕ) : Type 0 where
   pub opened : p .opened ≡ true
-  pub size : length (p .records) ≡ recordLimit
   pub whole : commandHolds p ≡ true
   pub fits : a + n ≤ windowLimit
   pub bytes : total (recordsIn p) + fresh (recordsIn p) a n ≤ heldLimit
   pub few : length (joined (recordsIn p) a n) ≤ recordLimit
 
--- What join gives of a command that holds together: 01's fresh, and the number of records after joining, by which 23 and 24 are
--- judged.
+-- What join gives of a command that holds together, by which 23 and 24 are judged: how many bytes the records up to the last that
+-- is met hold, 01's fresh, and the number of records after joining.
 pub record Judged (p : CommandState) (a n : ℕ) (r : Join) : Type 0 where
+  pub bytes : r .meeting .below + r .meeting .held ≡ total (take (r .meeting .last) (recordsIn p))
   pub fresh : r .fresh ≡ fresh (recordsIn p) a n
   pub count : r .command .count ≡ length (joined (recordsIn p) a n)
 
--- And where there is room: the place of the span's first address among the packed bytes, and the records joined.
+-- And where there is room: the records joined, the place of the span's first address among the packed bytes, and how the records lay
+-- to the one that was joined.
 pub record Joined (p : CommandState) (a n : ℕ) (r : Join) : Type 0 where
-  pub place : r .place ≡ place (joined (recordsIn p) a n) a
   pub records : r .command ≡ open-with (joined (recordsIn p) a n)
+  pub place : r .place ≡ place (joined (recordsIn p) a n) a
+  pub cut : Cut (recordsIn p) (r .meeting) (r .fresh) (a + n)
+  pub replaces : joined (recordsIn p) a n ≡ replaced (recordsIn p) (r .meeting)
 
 pub record Joins (p : CommandState) (a e : ℕ) (r : Join) : Type 0 where
   pub is : r ≡ join p a e

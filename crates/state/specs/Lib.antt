@@ -1,6 +1,7 @@
 pub mod Limits
 pub mod Records
 pub mod State
+pub mod Cut
 pub mod Join
 pub mod Bounds
 pub mod Refusals

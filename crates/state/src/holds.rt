@@ -1,16 +1,17 @@
 // Whether a state holds together, for any value of the types.
 ghost use mathlib.Core.Path.{_≡_};
+ghost use mathlib.Core.Bool.{true};
 ghost use Prim.Native.Nat.{_<_, _≤_};
 ghost use lib.ListN.{length, drop};
 ghost use Rattle.octets.specs.Lists.{all};
 ghost use Rattle.state.specs.Limits.{recordLimit};
 ghost use Rattle.state.specs.Records.{total};
-ghost use Rattle.state.specs.State.{recordsIn, ascending, isZero, commandHolds, holds};
+ghost use Rattle.state.specs.State.{recordsIn, ascending, isZero, commandHolds, holds, hasShape};
 use super::CacheState;
 use super::CommandState;
 
 // A field of a record, widened.
-pub(crate) fn wide(x: u16) -> usize
+pub fn wide(x: u16) -> usize
     ensures { λ r. ⌜ (r ≡ x) × (r < 65536) ⌝ }
 {
     x as usize
@@ -88,9 +89,9 @@ impl CommandState {
         true
     }
 
-    // Whether the command keeps to every rule.
+    // Whether the command keeps to every rule. Its type gives it all its entries.
     pub fn holds(self) -> bool
-        ensures { λ r. ⌜ r ≡ commandHolds self ⌝ }
+        ensures { λ r. ⌜ (r ≡ commandHolds self) × (length (self .records) ≡ recordLimit) ⌝ }
     {
         let count = self.count;
         if CacheState::RECORDS < count {
@@ -114,9 +115,9 @@ impl CommandState {
 }
 
 impl CacheState {
-    // Whether every command does.
+    // Whether every command does. A state that does has the shape that its type gives it.
     pub fn holds(self) -> bool
-        ensures { λ r. ⌜ r ≡ holds self ⌝ }
+        ensures { λ r. ⌜ (r ≡ holds self) × (r ≡ true → hasShape self ≡ true) ⌝ }
     {
         let mut c = 0;
         while c < CacheState::COMMANDS {

@@ -7,6 +7,7 @@ mod holds;
 mod join;
 mod refusal;
 
+pub use holds::wide;
 pub use join::Join;
 pub use join::Meeting;
 pub use refusal::Refusal;

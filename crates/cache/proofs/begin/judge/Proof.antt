@@ -29,7 +29,7 @@ holds-requires c κs = search needs
 
 returns-3 : tie.Need-returns-3
 unfolding beginSays
-returns-3 c = verdict-goes-on _ _ _ _ (lt-leb commandLimit (c .before .before .before .before .args .command) (omega arith)) (verdict-goes-on _ _ _ _ (ap not (eq-eqb (c .before .before .before .before .args .store-len) storeSize (omega arith))) (verdict-stops _ _ _ _ (ap not (sym (c .before .holds .ensures) ∙ not-true _ (c .if3 .taken)))))
+returns-3 c = verdict-goes-on _ _ _ _ (lt-leb commandLimit (c .before .before .before .before .args .command) (omega arith)) (verdict-goes-on _ _ _ _ (ap not (eq-eqb (c .before .before .before .before .args .store-len) storeSize (omega arith))) (verdict-stops _ _ _ _ (ap not (sym (c .before .holds .ensures .0) ∙ not-true _ (c .if3 .taken)))))
 
 mul-c : tie.Need-mul-c
 mul-c c = search needs
@@ -42,14 +42,14 @@ unfolding beginSays
 returns-4 c =
     let size : length (c .before .before .before .before .before .before .args .t1 .commands) ≡ commandLimit = simp length-map at (c .before .before .before .before .before .before .good .0 .1 .1 .0 .1 .0 .1) in
     let same = getD-within (c .before .before .before .before .before .before .args .t1 .commands) (c .before .before .before .before .before .before .args .command) closed _ (omega arith) in
-    verdict-goes-on _ _ _ _ (lt-leb commandLimit (c .before .before .before .before .before .before .args .command) (omega arith)) (verdict-goes-on _ _ _ _ (ap not (eq-eqb (c .before .before .before .before .before .before .args .store-len) storeSize (omega arith))) (verdict-goes-on _ _ _ _ (ap not (sym (c .before .before .before .holds .ensures) ∙ not-false _ (c .before .before .if3 .left))) (verdict-stops _ _ _ _ (ap (λ (p : CommandState). p .opened) same ∙ c .if4 .taken))))
+    verdict-goes-on _ _ _ _ (lt-leb commandLimit (c .before .before .before .before .before .before .args .command) (omega arith)) (verdict-goes-on _ _ _ _ (ap not (eq-eqb (c .before .before .before .before .before .before .args .store-len) storeSize (omega arith))) (verdict-goes-on _ _ _ _ (ap not (sym (c .before .before .before .holds .ensures .0) ∙ not-false _ (c .before .before .if3 .left))) (verdict-stops _ _ _ _ (ap (λ (p : CommandState). p .opened) same ∙ c .if4 .taken))))
 
 returns-5 : tie.Need-returns-5
 unfolding beginSays
 returns-5 c =
     let size : length (c .before .before .before .before .before .before .args .t1 .commands) ≡ commandLimit = simp length-map at (c .before .before .before .before .before .before .good .0 .1 .1 .0 .1 .0 .1) in
     let same = getD-within (c .before .before .before .before .before .before .args .t1 .commands) (c .before .before .before .before .before .before .args .command) closed _ (omega arith) in
-    verdict-goes-on _ _ _ _ (lt-leb commandLimit (c .before .before .before .before .before .before .args .command) (omega arith)) (verdict-goes-on _ _ _ _ (ap not (eq-eqb (c .before .before .before .before .before .before .args .store-len) storeSize (omega arith))) (verdict-goes-on _ _ _ _ (ap not (sym (c .before .before .before .holds .ensures) ∙ not-false _ (c .before .before .if3 .left))) (verdict-goes-on _ _ _ _ (ap (λ (p : CommandState). p .opened) same ∙ c .if4 .left) (verdict-gives refl))))
+    verdict-goes-on _ _ _ _ (lt-leb commandLimit (c .before .before .before .before .before .before .args .command) (omega arith)) (verdict-goes-on _ _ _ _ (ap not (eq-eqb (c .before .before .before .before .before .before .args .store-len) storeSize (omega arith))) (verdict-goes-on _ _ _ _ (ap not (sym (c .before .before .before .holds .ensures .0) ∙ not-false _ (c .before .before .if3 .left))) (verdict-goes-on _ _ _ _ (ap (λ (p : CommandState). p .opened) same ∙ c .if4 .left) (verdict-gives refl))))
 
 pub judge-spec : {M : Type 1} → statement M
 judge-spec =

@@ -31,7 +31,7 @@ holds-requires c κs = search needs
 
 returns-3 : tie.Need-returns-3
 unfolding endSays
-returns-3 c = verdict-goes-on _ _ _ _ (lt-leb commandLimit (c .before .before .before .before .args .command) (omega arith)) (verdict-goes-on _ _ _ _ (ap not (eq-eqb (c .before .before .before .before .args .store-len) storeSize (omega arith))) (verdict-stops _ _ _ _ (ap not (sym (c .before .holds .ensures) ∙ not-true _ (c .if3 .taken)))))
+returns-3 c = verdict-goes-on _ _ _ _ (lt-leb commandLimit (c .before .before .before .before .args .command) (omega arith)) (verdict-goes-on _ _ _ _ (ap not (eq-eqb (c .before .before .before .before .args .store-len) storeSize (omega arith))) (verdict-stops _ _ _ _ (ap not (sym (c .before .holds .ensures .0) ∙ not-true _ (c .if3 .taken)))))
 
 mul-c : tie.Need-mul-c
 mul-c c = search needs
@@ -44,7 +44,7 @@ unfolding endSays
 returns-4 c =
     let size : length (c .before .before .before .before .before .before .args .t1 .commands) ≡ commandLimit = simp length-map at (c .before .before .before .before .before .before .good .0 .1 .1 .0 .1 .0 .1) in
     let same = getD-within (c .before .before .before .before .before .before .args .t1 .commands) (c .before .before .before .before .before .before .args .command) closed _ (omega arith) in
-    verdict-goes-on _ _ _ _ (lt-leb commandLimit (c .before .before .before .before .before .before .args .command) (omega arith)) (verdict-goes-on _ _ _ _ (ap not (eq-eqb (c .before .before .before .before .before .before .args .store-len) storeSize (omega arith))) (verdict-goes-on _ _ _ _ (ap not (sym (c .before .before .before .holds .ensures) ∙ not-false _ (c .before .before .if3 .left))) (verdict-stops _ _ _ _ (ap not (ap (λ (p : CommandState). p .opened) same ∙ not-true _ (c .if4 .taken))))))
+    verdict-goes-on _ _ _ _ (lt-leb commandLimit (c .before .before .before .before .before .before .args .command) (omega arith)) (verdict-goes-on _ _ _ _ (ap not (eq-eqb (c .before .before .before .before .before .before .args .store-len) storeSize (omega arith))) (verdict-goes-on _ _ _ _ (ap not (sym (c .before .before .before .holds .ensures .0) ∙ not-false _ (c .before .before .if3 .left))) (verdict-stops _ _ _ _ (ap not (ap (λ (p : CommandState). p .opened) same ∙ not-true _ (c .if4 .taken))))))
 
 used-requires : tie.Need-used-requires
 used-requires c κs = search needs
@@ -59,7 +59,7 @@ returns-5 c =
     let same = getD-within (c .before .before .before .before .before .before .before .before .args .t1 .commands) (c .before .before .before .before .before .before .before .before .args .command) closed _ (omega arith) in
     let records = c .before .used .ensures .0 ∙ ap (λ (p : CommandState). length (recordsIn p)) (sym same) in
     let bytes = c .held-from .ensures ∙ ap (λ (p : CommandState). total (recordsIn p)) (sym same) in
-    verdict-goes-on _ _ _ _ (lt-leb commandLimit (c .before .before .before .before .before .before .before .before .args .command) (omega arith)) (verdict-goes-on _ _ _ _ (ap not (eq-eqb (c .before .before .before .before .before .before .before .before .args .store-len) storeSize (omega arith))) (verdict-goes-on _ _ _ _ (ap not (sym (c .before .before .before .before .before .holds .ensures) ∙ not-false _ (c .before .before .before .before .if3 .left))) (verdict-goes-on _ _ _ _ (ap not (ap (λ (p : CommandState). p .opened) same ∙ not-false _ (c .before .before .if4 .left))) (verdict-gives (ap₂ (λ (a b : ℕ). replied (a ∷ b ∷ [])) records bytes)))))
+    verdict-goes-on _ _ _ _ (lt-leb commandLimit (c .before .before .before .before .before .before .before .before .args .command) (omega arith)) (verdict-goes-on _ _ _ _ (ap not (eq-eqb (c .before .before .before .before .before .before .before .before .args .store-len) storeSize (omega arith))) (verdict-goes-on _ _ _ _ (ap not (sym (c .before .before .before .before .before .holds .ensures .0) ∙ not-false _ (c .before .before .before .before .if3 .left))) (verdict-goes-on _ _ _ _ (ap not (ap (λ (p : CommandState). p .opened) same ∙ not-false _ (c .before .before .if4 .left))) (verdict-gives (ap₂ (λ (a b : ℕ). replied (a ∷ b ∷ [])) records bytes)))))
 
 pub judge-spec : {M : Type 1} → statement M
 judge-spec =

@@ -38,7 +38,7 @@ holds-requires c κs = search needs
 
 returns-5 : tie.Need-returns-5
 unfolding ownSays
-returns-5 c = verdict-goes-on _ _ _ _ (le-ltb transferLimit (c .before .before .before .before .before .before .before .args .size) (omega arith)) (verdict-goes-on _ _ _ _ (lt-leb commandLimit (c .before .before .before .before .before .before .before .args .command) (omega arith)) (verdict-goes-on _ _ _ _ (le-ltb windowLimit (c .before .before .before .before .before .before .before .args .window-len) (omega arith)) (verdict-goes-on _ _ _ _ (sym (c .before .before .before .outside .ensures) ∙ c .before .before .if4 .left) (verdict-stops _ _ _ _ (ap not (sym (c .before .holds .ensures) ∙ not-true _ (c .if5 .taken)))))))
+returns-5 c = verdict-goes-on _ _ _ _ (le-ltb transferLimit (c .before .before .before .before .before .before .before .args .size) (omega arith)) (verdict-goes-on _ _ _ _ (lt-leb commandLimit (c .before .before .before .before .before .before .before .args .command) (omega arith)) (verdict-goes-on _ _ _ _ (le-ltb windowLimit (c .before .before .before .before .before .before .before .args .window-len) (omega arith)) (verdict-goes-on _ _ _ _ (sym (c .before .before .before .outside .ensures) ∙ c .before .before .if4 .left) (verdict-stops _ _ _ _ (ap not (sym (c .before .holds .ensures .0) ∙ not-true _ (c .if5 .taken)))))))
 
 mul-c : tie.Need-mul-c
 mul-c c = search needs
@@ -51,14 +51,14 @@ unfolding ownSays
 returns-6 c =
     let size : length (c .before .before .before .before .before .before .before .before .before .args .t1 .commands) ≡ commandLimit = simp length-map at (c .before .before .before .before .before .before .before .before .before .good .0 .1 .1 .0 .1 .0 .1) in
     let same = getD-within (c .before .before .before .before .before .before .before .before .before .args .t1 .commands) (c .before .before .before .before .before .before .before .before .before .args .command) closed _ (omega arith) in
-    verdict-goes-on _ _ _ _ (le-ltb transferLimit (c .before .before .before .before .before .before .before .before .before .args .size) (omega arith)) (verdict-goes-on _ _ _ _ (lt-leb commandLimit (c .before .before .before .before .before .before .before .before .before .args .command) (omega arith)) (verdict-goes-on _ _ _ _ (le-ltb windowLimit (c .before .before .before .before .before .before .before .before .before .args .window-len) (omega arith)) (verdict-goes-on _ _ _ _ (sym (c .before .before .before .before .before .outside .ensures) ∙ c .before .before .before .before .if4 .left) (verdict-goes-on _ _ _ _ (ap not (sym (c .before .before .before .holds .ensures) ∙ not-false _ (c .before .before .if5 .left))) (verdict-stops _ _ _ _ (ap not (ap (λ (p : CommandState). p .opened) same ∙ not-true _ (c .if6 .taken))))))))
+    verdict-goes-on _ _ _ _ (le-ltb transferLimit (c .before .before .before .before .before .before .before .before .before .args .size) (omega arith)) (verdict-goes-on _ _ _ _ (lt-leb commandLimit (c .before .before .before .before .before .before .before .before .before .args .command) (omega arith)) (verdict-goes-on _ _ _ _ (le-ltb windowLimit (c .before .before .before .before .before .before .before .before .before .args .window-len) (omega arith)) (verdict-goes-on _ _ _ _ (sym (c .before .before .before .before .before .outside .ensures) ∙ c .before .before .before .before .if4 .left) (verdict-goes-on _ _ _ _ (ap not (sym (c .before .before .before .holds .ensures .0) ∙ not-false _ (c .before .before .if5 .left))) (verdict-stops _ _ _ _ (ap not (ap (λ (p : CommandState). p .opened) same ∙ not-true _ (c .if6 .taken))))))))
 
 returns-7 : tie.Need-returns-7
 unfolding ownSays
 returns-7 c =
     let size : length (c .before .before .before .before .before .before .before .before .before .args .t1 .commands) ≡ commandLimit = simp length-map at (c .before .before .before .before .before .before .before .before .before .good .0 .1 .1 .0 .1 .0 .1) in
     let same = getD-within (c .before .before .before .before .before .before .before .before .before .args .t1 .commands) (c .before .before .before .before .before .before .before .before .before .args .command) closed _ (omega arith) in
-    verdict-goes-on _ _ _ _ (le-ltb transferLimit (c .before .before .before .before .before .before .before .before .before .args .size) (omega arith)) (verdict-goes-on _ _ _ _ (lt-leb commandLimit (c .before .before .before .before .before .before .before .before .before .args .command) (omega arith)) (verdict-goes-on _ _ _ _ (le-ltb windowLimit (c .before .before .before .before .before .before .before .before .before .args .window-len) (omega arith)) (verdict-goes-on _ _ _ _ (sym (c .before .before .before .before .before .outside .ensures) ∙ c .before .before .before .before .if4 .left) (verdict-goes-on _ _ _ _ (ap not (sym (c .before .before .before .holds .ensures) ∙ not-false _ (c .before .before .if5 .left))) (verdict-goes-on _ _ _ _ (ap not (ap (λ (p : CommandState). p .opened) same ∙ not-false _ (c .if6 .left))) (verdict-gives refl))))))
+    verdict-goes-on _ _ _ _ (le-ltb transferLimit (c .before .before .before .before .before .before .before .before .before .args .size) (omega arith)) (verdict-goes-on _ _ _ _ (lt-leb commandLimit (c .before .before .before .before .before .before .before .before .before .args .command) (omega arith)) (verdict-goes-on _ _ _ _ (le-ltb windowLimit (c .before .before .before .before .before .before .before .before .before .args .window-len) (omega arith)) (verdict-goes-on _ _ _ _ (sym (c .before .before .before .before .before .outside .ensures) ∙ c .before .before .before .before .if4 .left) (verdict-goes-on _ _ _ _ (ap not (sym (c .before .before .before .holds .ensures .0) ∙ not-false _ (c .before .before .if5 .left))) (verdict-goes-on _ _ _ _ (ap not (ap (λ (p : CommandState). p .opened) same ∙ not-false _ (c .if6 .left))) (verdict-gives refl))))))
 
 pub judge-spec : {M : Type 1} → statement M
 judge-spec =

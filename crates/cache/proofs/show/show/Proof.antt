@@ -28,7 +28,7 @@ holds-requires c κs = search needs
 
 returns-2 : tie.Need-returns-2
 unfolding showSays
-returns-2 c = verdict-goes-on _ _ _ _ (lt-leb commandLimit (c .before .before .before .args .command) (omega arith)) (verdict-stops _ _ _ _ (ap not (sym (c .before .holds .ensures) ∙ not-true _ (c .if2 .taken))))
+returns-2 c = verdict-goes-on _ _ _ _ (lt-leb commandLimit (c .before .before .before .args .command) (omega arith)) (verdict-stops _ _ _ _ (ap not (sym (c .before .holds .ensures .0) ∙ not-true _ (c .if2 .taken))))
 
 mul-c : tie.Need-mul-c
 mul-c c = search needs
@@ -41,7 +41,7 @@ unfolding showSays
 returns-3 c =
     let size : length (c .before .before .before .before .before .args .t1 .commands) ≡ commandLimit = simp length-map at (c .before .before .before .before .before .good .0 .1 .1 .0 .1 .0 .1) in
     let same = getD-within (c .before .before .before .before .before .args .t1 .commands) (c .before .before .before .before .before .args .command) closed _ (omega arith) in
-    verdict-goes-on _ _ _ _ (lt-leb commandLimit (c .before .before .before .before .before .args .command) (omega arith)) (verdict-goes-on _ _ _ _ (ap not (sym (c .before .before .before .holds .ensures) ∙ not-false _ (c .before .before .if2 .left))) (verdict-stops _ _ _ _ (ap not (ap (λ (p : CommandState). p .opened) same ∙ not-true _ (c .if3 .taken)))))
+    verdict-goes-on _ _ _ _ (lt-leb commandLimit (c .before .before .before .before .before .args .command) (omega arith)) (verdict-goes-on _ _ _ _ (ap not (sym (c .before .before .before .holds .ensures .0) ∙ not-false _ (c .before .before .if2 .left))) (verdict-stops _ _ _ _ (ap not (ap (λ (p : CommandState). p .opened) same ∙ not-true _ (c .if3 .taken)))))
 
 used-requires : tie.Need-used-requires
 used-requires c κs = search needs
@@ -52,7 +52,7 @@ returns-4 c =
     let size : length (c .before .before .before .before .before .before .before .args .t1 .commands) ≡ commandLimit = simp length-map at (c .before .before .before .before .before .before .before .good .0 .1 .1 .0 .1 .0 .1) in
     let same = getD-within (c .before .before .before .before .before .before .before .args .t1 .commands) (c .before .before .before .before .before .before .before .args .command) closed _ (omega arith) in
     let records = c .before .used .ensures .0 ∙ ap (λ (p : CommandState). length (recordsIn p)) (sym same) in
-    verdict-goes-on _ _ _ _ (lt-leb commandLimit (c .before .before .before .before .before .before .before .args .command) (omega arith)) (verdict-goes-on _ _ _ _ (ap not (sym (c .before .before .before .before .before .holds .ensures) ∙ not-false _ (c .before .before .before .before .if2 .left))) (verdict-goes-on _ _ _ _ (ap not (ap (λ (p : CommandState). p .opened) same ∙ not-false _ (c .before .before .if3 .left))) (verdict-stops _ _ _ _ (le-leb _ (c .before .before .before .before .before .before .before .args .index) (omega arith)))))
+    verdict-goes-on _ _ _ _ (lt-leb commandLimit (c .before .before .before .before .before .before .before .args .command) (omega arith)) (verdict-goes-on _ _ _ _ (ap not (sym (c .before .before .before .before .before .holds .ensures .0) ∙ not-false _ (c .before .before .before .before .if2 .left))) (verdict-goes-on _ _ _ _ (ap not (ap (λ (p : CommandState). p .opened) same ∙ not-false _ (c .before .before .if3 .left))) (verdict-stops _ _ _ _ (le-leb _ (c .before .before .before .before .before .before .before .args .index) (omega arith)))))
 
 mul-r : tie.Need-mul-r
 mul-r c = search needs
@@ -69,7 +69,7 @@ returns-5 c =
     let below : c .before .before .before .before .before .before .before .before .args .index < p .count = omega (arith, length-take (p .count) (p .records), c .before .before .used .ensures .0) in
     let found = sym (getD-take (p .count) (p .records) (c .before .before .before .before .before .before .before .before .args .index) noRecord below) ∙ ap (λ (q : CommandState). getD (recordsIn q) (c .before .before .before .before .before .before .before .before .args .index) noRecord) (sym same) in
     let records = c .before .before .used .ensures .0 ∙ ap (λ (p : CommandState). length (recordsIn p)) (sym same) in
-    verdict-goes-on _ _ _ _ (lt-leb commandLimit (c .before .before .before .before .before .before .before .before .args .command) (omega arith)) (verdict-goes-on _ _ _ _ (ap not (sym (c .before .before .before .before .before .before .holds .ensures) ∙ not-false _ (c .before .before .before .before .before .if2 .left))) (verdict-goes-on _ _ _ _ (ap not (ap (λ (p : CommandState). p .opened) same ∙ not-false _ (c .before .before .before .if3 .left))) (verdict-goes-on _ _ _ _ (lt-leb _ (c .before .before .before .before .before .before .before .before .args .index) (omega arith)) (verdict-gives (ap (λ (r : Record). replied (r .start ∷ r .len ∷ [])) found)))))
+    verdict-goes-on _ _ _ _ (lt-leb commandLimit (c .before .before .before .before .before .before .before .before .args .command) (omega arith)) (verdict-goes-on _ _ _ _ (ap not (sym (c .before .before .before .before .before .before .holds .ensures .0) ∙ not-false _ (c .before .before .before .before .before .if2 .left))) (verdict-goes-on _ _ _ _ (ap not (ap (λ (p : CommandState). p .opened) same ∙ not-false _ (c .before .before .before .if3 .left))) (verdict-goes-on _ _ _ _ (lt-leb _ (c .before .before .before .before .before .before .before .before .args .index) (omega arith)) (verdict-gives (ap (λ (r : Record). replied (r .start ∷ r .len ∷ [])) found)))))
 
 pub show-spec : {M : Type 1} → statement M
 show-spec =

@@ -2,14 +2,14 @@
 use Prim.Native.Nat.{ℕ, suc, _+_, _-_, _≤_, _<_, min}
 use native.Mathlib.Nat.{add-zero, sub-zero}
 use native.Mathlib.Omega.{arith}
-use mathlib.Core.Path.{_≡_, refl, sym}
+use mathlib.Core.Path.{_≡_, refl, ap, sym, _∙_}
 use mathlib.Core.List.{List}
 use denote.Ref.{now}
 use lib.ListN.{length, getD, set, length-take, length-drop, length-set}
 use lib.Seq.{drop-cons}
 use borrow.Author.Needs.{needs}
 use Rattle.octets.specs.Lists.{overwrite, part}
-use Rattle.octets.proofs.Overwrite.{overwrite-none, overwrite-below, overwrite-more}
+use Rattle.octets.proofs.Overwrite.{overwrite-same, overwrite-none, overwrite-below, overwrite-more}
 use Rattle.octets.proofs.shift.move_up.Statement.{statement}
 use Rattle.octets.proofs.shift.move_up.Tie as tie
 
@@ -33,12 +33,25 @@ returns c =
     let args = c .before .before .args in
     no-room (now (args .buffer)) (args .from) (args .count) (args .by) (omega arith)
 
-sub-above : tie.Need-sub-above Inv-loop μ-loop
-sub-above c = omega arith
+-- by no place, the bytes are written over themselves
+same-place :
+    (buffer : List ℕ) (from count by : ℕ) → from ≤ length buffer → by ≡ 0
+    → buffer ≡ overwrite buffer (from + by) (part buffer from (min count (length buffer - (from + by))))
+same-place buffer from count by inside none =
+    let at : from + by ≡ from = omega arith in
+    rw at (sym (overwrite-same buffer from (min count (length buffer - from)) (omega arith)))
 
 returns-2 : tie.Need-returns-2 Inv-loop μ-loop
 returns-2 c =
     let args = c .before .before .before .args in
+    same-place (now (args .buffer)) (args .from) (args .count) (args .by) (omega arith) (omega arith)
+
+sub-above : tie.Need-sub-above Inv-loop μ-loop
+sub-above c = omega arith
+
+returns-3 : tie.Need-returns-3 Inv-loop μ-loop
+returns-3 c =
+    let args = c .before .before .before .before .args in
     no-room (now (args .buffer)) (args .from) (args .count) (args .by) (omega arith)
 
 add-to : tie.Need-add-to Inv-loop μ-loop
@@ -49,7 +62,7 @@ lesser-requires c κs = search needs
 
 loop-holds : tie.Need-loop-holds Inv-loop μ-loop
 loop-holds c =
-    let args = c .before .before .before .before .args in
+    let args = c .before .before .before .before .before .args in
     let k = c .lesser .result in
     let none : k - k ≡ 0 = omega arith in
     (omega arith, rw none (sym (overwrite-none (now (args .buffer)) (args .from + args .by + k))), refl)
@@ -93,19 +106,23 @@ module _ (buffer : List ℕ) (from to k n : ℕ) (up : from ≤ to) (room : to +
 loop-again : tie.Need-loop-again Inv-loop μ-loop
 loop-again c =
     let at-loop = c .before .before in
-    let args = at-loop .before .before .before .before .before .args in
+    let args = at-loop .before .before .before .before .before .before .args in
     let stored = store (now (args .buffer)) (args .from) (args .from + args .by) (at-loop .loop .k) (at-loop .before .lesser .result) (omega arith) (omega arith) (omega arith) (omega arith) in
     (omega arith, rw (at-loop .loop .inv .1) stored, simp length-set (omega arith))
 
 same-length : tie.Need-same-length Inv-loop μ-loop
 same-length c = omega arith
 
-returns-3 : tie.Need-returns-3 Inv-loop μ-loop
-returns-3 c =
+both-off : (n a b : ℕ) → n - a - b ≡ n - (a + b)
+both-off n a b = omega arith
+
+returns-4 : tie.Need-returns-4 Inv-loop μ-loop
+returns-4 c =
     let at-loop = c .before in
-    let args = at-loop .before .before .before .before .before .args in
+    let args = at-loop .before .before .before .before .before .before .args in
     let none : at-loop .loop .k ≡ 0 = omega arith in
-    let most : at-loop .before .lesser .result ≡ min (args .count) (length (now (args .buffer)) - (args .from + args .by)) = omega arith in
+    let most : at-loop .before .lesser .result ≡ min (args .count) (length (now (args .buffer)) - (args .from + args .by)) =
+    at-loop .before .lesser .ensures ∙ ap (λ (n : ℕ). min (args .count) n) (both-off (length (now (args .buffer))) (args .from) (args .by)) in
     rw (at-loop .loop .inv .1, none) (simp (add-zero, sub-zero, most))
 
 pub move-up-spec : {M : Type 1} → statement M
@@ -115,8 +132,9 @@ move-up-spec =
     Inv-loop
     μ-loop
     returns
-    sub-above
     returns-2
+    sub-above
+    returns-3
     add-to
     lesser-requires
     loop-holds
@@ -128,4 +146,4 @@ move-up-spec =
     loop-less
     loop-again
     same-length
-    returns-3)
+    returns-4)
