@@ -1,0 +1,25 @@
+-- The byte is stored where there is a place for it, and else nothing is put.
+use native.Mathlib.Omega.{arith}
+use denote.Ref.{now}
+use borrow.Author.Needs.{needs}
+use Rattle.log.proofs.Putting.{puts-one, puts-past}
+use Rattle.log.proofs.text.put_byte.Statement.{statement}
+use Rattle.log.proofs.text.put_byte.Tie as tie
+
+slice-write-out : tie.Need-slice-write-out
+slice-write-out c = search needs
+
+add-result : tie.Need-add-result
+add-result c = search needs
+
+same-length : tie.Need-same-length
+same-length c = search needs
+
+returns : tie.Need-returns
+returns c = let a = c .before .args in puts-one (now (a .out)) (a .at) (a .byte) (omega arith)
+
+returns-2 : tie.Need-returns-2
+returns-2 c = let a = c .before .args in puts-past (now (a .out)) (a .at) _ (omega arith)
+
+pub put-byte-spec : {M : Type 1} → statement M
+put-byte-spec = tie.close (tie.spec slice-write-out add-result same-length returns returns-2)

@@ -1,0 +1,74 @@
+-- Text as bytes: quoted text, numbers in decimal, bytes in hexadecimal, and what it is to put text into a buffer.
+use Prim.Native.Nat.{ℕ, zero, suc, _+_, _-_, _*_, _/_, _%_, _<_, min}
+use Prim.Native.Char.{code}
+use Prim.Native.String.{String, [] as none, _∷_ as _then_}
+use mathlib.Core.Path.{_≡_}
+use mathlib.Core.List.{List, [], _∷_, _++_}
+use mathlib.Core.Bool.{Bool, true, false, _&&_, cond}
+use lib.Dec.{ltb, leb}
+use lib.ListN.{length, take}
+use Rattle.octets.specs.Lists.{overwrite, part, all}
+use Rattle.state.specs.Records.{span}
+
+-- quoted text, a byte for each character
+abbrev pub ascii : String → List ℕ
+ascii none = []
+ascii (c then s) = code c ∷ ascii s
+
+-- the character of a decimal digit
+abbrev pub digit : ℕ → ℕ
+digit d = code "0" + d
+
+-- The digits of a number, the most significant first: those of its tenth, and then its last. The steps only bound the recursion.
+unfoldable pub digits : (steps n : ℕ) → List ℕ
+digits zero n = []
+digits (suc steps) n = elim (ltb n 10) [ true ↦ digit n ∷ [] | false ↦ digits steps (n / 10) ++ digit (n % 10) ∷ [] ]
+
+-- 01's decimal numbers
+unfoldable pub decimal : ℕ → List ℕ
+decimal n = digits (suc n) n
+
+-- the number that a reader makes of digits, behind those that it has read already
+unfoldable pub readOn : ℕ → List ℕ → ℕ
+readOn n [] = n
+readOn n (d ∷ ds) = readOn (n * 10 + (d - code "0")) ds
+
+abbrev pub valueOf : List ℕ → ℕ
+valueOf text = readOn 0 text
+
+abbrev pub isDigit : ℕ → Bool
+isDigit x = leb (code "0") x && leb x (code "9")
+
+-- The claims on decimal numbers: each is read as the number that it stands for, is made of digits, and begins with 0 only if it is 0.
+abbrev pub DecimalReads : Type 0
+DecimalReads = (n : ℕ) → valueOf (decimal n) ≡ n
+
+abbrev pub DecimalDigits : Type 0
+DecimalDigits = (n : ℕ) → all isDigit (decimal n) ≡ true
+
+abbrev pub NoLeadingZero : Type 0
+NoLeadingZero = (n : ℕ) (rest : List ℕ) → decimal n ≡ code "0" ∷ rest → n ≡ 0
+
+-- 01's lower-case hexadecimal: a digit, the two characters of a byte, and bytes unbroken
+unfoldable pub hexDigit : ℕ → ℕ
+hexDigit d = cond (ltb d 10) (digit d) (code "a" + (d - 10))
+
+abbrev pub hexPair : ℕ → List ℕ
+hexPair byte = hexDigit (byte / 16) ∷ hexDigit (byte % 16) ∷ []
+
+unfoldable pub hexadecimal : List ℕ → List ℕ
+hexadecimal [] = []
+hexadecimal (byte ∷ bytes) = hexPair byte ++ hexadecimal bytes
+
+-- 01's table of 512 characters: every byte in hexadecimal, one behind the other
+unfoldable pub hexTable : List ℕ
+hexTable = hexadecimal (span 0 256)
+
+-- and so byte b is at places 2 × b and 2 × b + 1
+abbrev pub TablePairs : Type 0
+TablePairs = (byte : ℕ) → byte < 256 → part hexTable (2 * byte) 2 ≡ hexPair byte
+
+-- Text is put into a buffer from a place on, as much of it as there is room for. The reply is the place behind it.
+pub record Puts (out : List ℕ) (at : ℕ) (text : List ℕ) (r : ℕ) (out′ : List ℕ) : Type 0 where
+  pub bytes : out′ ≡ overwrite out at (take (length out - at) text)
+  pub next : r ≡ min (length out) (at + length text)

@@ -1,0 +1,10 @@
+// The log of a run, one line for each frame: the text of a line, made in a lent buffer.
+mod line;
+mod text;
+
+pub use line::Answer;
+pub use line::put_line;
+pub use line::put_too_long;
+pub use text::put;
+pub use text::put_decimal;
+pub use text::put_hex;

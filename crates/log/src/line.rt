@@ -1,0 +1,106 @@
+// One line of the log, put into a lent buffer.
+use crate::text::put;
+use crate::text::put_byte;
+use crate::text::put_decimal;
+use crate::text::put_hex;
+use crate::text::wide;
+use state::Refusal;
+ghost use mathlib.Core.List.{_++_, map};
+ghost use Rattle.log.specs.Text.{ascii, decimal, Puts};
+ghost use Rattle.log.specs.Line.{answerReply, numbersOf, deliveredFields, answerFields, spaced, lineOf, tooLong};
+
+// What was done with a frame.
+pub enum Answer {
+    Done,
+    // how many bytes were written
+    Count(usize),
+    // fresh and replayed bytes of a fetch, records and bytes of an end
+    Counts(usize, usize),
+    Refused(Refusal),
+}
+
+const BLANK: u8 = b' ';
+
+const NEWLINE: u8 = b'\n';
+
+const FETCH: u8 = b'F';
+
+// The line of a frame. What was delivered is shown after the numbers of a fetch, and nowhere else.
+pub fn put_line(
+    out: &mut [u8],
+    at: usize,
+    number: usize,
+    letter: u8,
+    answer: Answer,
+    delivered: &[u8],
+) -> usize
+    ensures { λ r. ⌜ Puts (now (out .entry)) at (lineOf number letter (answerReply answer) (now (delivered .entry))) r (now (out .exit)) ⌝ }
+{
+    let next = put_decimal(out, at, number);
+    let next = put_byte(out, next, BLANK);
+    let next = put_byte(out, next, letter);
+    let next = put_answer(out, next, letter, answer, delivered);
+    put_byte(out, next, NEWLINE)
+}
+
+// The line that stands alone where the input is too long.
+pub fn put_too_long(out: &mut [u8], at: usize) -> usize
+    ensures { λ r. ⌜ Puts (now (out .entry)) at tooLong r (now (out .exit)) ⌝ }
+{
+    put(out, at, b"input too long\n")
+}
+
+// `no` and the number of a refusal; or `ok`, the numbers of a reply and what was delivered.
+fn put_answer(out: &mut [u8], at: usize, letter: u8, answer: Answer, delivered: &[u8]) -> usize
+    ensures { λ r. ⌜ Puts (now (out .entry)) at (spaced (answerFields letter (answerReply answer) (now (delivered .entry)))) r (now (out .exit)) ⌝ }
+{
+    if let Answer::Refused(refusal) = answer {
+        let next = put_word(out, at, b"no");
+        return put_number(out, next, wide(refusal.number()));
+    }
+    let next = put_word(out, at, b"ok");
+    let next = put_numbers(out, next, answer);
+    put_delivered(out, next, letter, delivered)
+}
+
+// The numbers of a reply, if there are any.
+fn put_numbers(out: &mut [u8], at: usize, answer: Answer) -> usize
+    ensures { λ r. ⌜ Puts (now (out .entry)) at (spaced (map decimal (numbersOf (answerReply answer)))) r (now (out .exit)) ⌝ }
+{
+    match answer {
+        Answer::Count(n) => put_number(out, at, n),
+        Answer::Counts(m, n) => {
+            let next = put_number(out, at, m);
+            put_number(out, next, n)
+        }
+        _ => put(out, at, b""),
+    }
+}
+
+// One field with the blank before it: a word, a number, or what a fetch delivered.
+fn put_word(out: &mut [u8], at: usize, word: &[u8]) -> usize
+    ensures { λ r. ⌜ Puts (now (out .entry)) at (ascii " " ++ now (word .entry)) r (now (out .exit)) ⌝ }
+{
+    let next = put_byte(out, at, BLANK);
+    put(out, next, word)
+}
+
+fn put_number(out: &mut [u8], at: usize, n: usize) -> usize
+    ensures { λ r. ⌜ Puts (now (out .entry)) at (ascii " " ++ decimal n) r (now (out .exit)) ⌝ }
+{
+    let next = put_byte(out, at, BLANK);
+    put_decimal(out, next, n)
+}
+
+fn put_delivered(out: &mut [u8], at: usize, letter: u8, delivered: &[u8]) -> usize
+    ensures { λ r. ⌜ Puts (now (out .entry)) at (spaced (deliveredFields letter (now (delivered .entry)))) r (now (out .exit)) ⌝ }
+{
+    if letter != FETCH {
+        return put(out, at, b"");
+    }
+    if delivered.len() == 0 {
+        return put_word(out, at, b"-");
+    }
+    let next = put_byte(out, at, BLANK);
+    put_hex(out, next, delivered)
+}

@@ -1,0 +1,100 @@
+// Text put into a lent buffer: bytes as they are, a number in decimal, bytes in hexadecimal. Each function takes every input: what
+// does not fit is left out, and the reply is the place behind what was put.
+use octets::copy_at;
+use octets::lesser;
+use octets::minus;
+ghost use mathlib.Core.Path.{_≡_};
+ghost use mathlib.Core.List.{[], _∷_};
+ghost use Prim.Native.Nat.{_<_};
+ghost use Rattle.log.specs.Text.{digit, decimal, hexPair, hexadecimal, hexTable, Puts};
+
+// The most digits of a number of 64 bits.
+const DIGITS: usize = 20;
+
+// Byte b stands at places 2 * b and 2 * b + 1.
+const HEX: [u8; 512] = *b"\
+    000102030405060708090a0b0c0d0e0f101112131415161718191a1b1c1d1e1f\
+    202122232425262728292a2b2c2d2e2f303132333435363738393a3b3c3d3e3f\
+    404142434445464748494a4b4c4d4e4f505152535455565758595a5b5c5d5e5f\
+    606162636465666768696a6b6c6d6e6f707172737475767778797a7b7c7d7e7f\
+    808182838485868788898a8b8c8d8e8f909192939495969798999a9b9c9d9e9f\
+    a0a1a2a3a4a5a6a7a8a9aaabacadaeafb0b1b2b3b4b5b6b7b8b9babbbcbdbebf\
+    c0c1c2c3c4c5c6c7c8c9cacbcccdcecfd0d1d2d3d4d5d6d7d8d9dadbdcdddedf\
+    e0e1e2e3e4e5e6e7e8e9eaebecedeeeff0f1f2f3f4f5f6f7f8f9fafbfcfdfeff";
+
+pub fn put(out: &mut [u8], at: usize, text: &[u8]) -> usize
+    ensures { λ r. ⌜ Puts (now (out .entry)) at (now (text .entry)) r (now (out .exit)) ⌝ }
+{
+    copy_at(out, at, text);
+    lesser(at, out.len()) + lesser(text.len(), minus(out.len(), at))
+}
+
+pub(crate) fn put_byte(out: &mut [u8], at: usize, byte: u8) -> usize
+    ensures { λ r. ⌜ Puts (now (out .entry)) at (byte ∷ []) r (now (out .exit)) ⌝ }
+{
+    if at < out.len() {
+        out[at] = byte;
+        at + 1
+    } else {
+        out.len()
+    }
+}
+
+// The digits go into a buffer of their own, the last one first, from its end down.
+pub fn put_decimal(out: &mut [u8], at: usize, n: usize) -> usize
+    ensures { λ r. ⌜ Puts (now (out .entry)) at (decimal n) r (now (out .exit)) ⌝ }
+{
+    let mut digits = [0u8; DIGITS];
+    let mut start = DIGITS;
+    let mut rest = n;
+    while 10 <= rest {
+        start -= 1;
+        digits[start] = digit(rest % 10);
+        rest = rest / 10;
+    }
+    start -= 1;
+    digits[start] = digit(rest);
+    put(out, at, &digits[start..])
+}
+
+fn digit(n: usize) -> u8
+    requires { ⌜ n < 10 ⌝ }
+    ensures { λ r. ⌜ r ≡ digit n ⌝ }
+{
+    b'0' + n as u8
+}
+
+// The table is laid out once, for all the bytes.
+pub fn put_hex(out: &mut [u8], at: usize, bytes: &[u8]) -> usize
+    ensures { λ r. ⌜ Puts (now (out .entry)) at (hexadecimal (now (bytes .entry))) r (now (out .exit)) ⌝ }
+{
+    let table = hex_table();
+    let mut next = lesser(at, out.len());
+    let mut i = 0;
+    while i < bytes.len() {
+        next = put_pair(out, next, &table, bytes[i]);
+        i += 1;
+    }
+    next
+}
+
+fn hex_table() -> [u8; 512]
+    ensures { λ r. ⌜ r ≡ hexTable ⌝ }
+{
+    HEX
+}
+
+fn put_pair(out: &mut [u8], at: usize, table: &[u8; 512], byte: u8) -> usize
+    requires { ⌜ now table ≡ hexTable ⌝ }
+    ensures { λ r. ⌜ Puts (now (out .entry)) at (hexPair byte) r (now (out .exit)) ⌝ }
+{
+    let place = 2 * wide(byte);
+    let next = put_byte(out, at, table[place]);
+    put_byte(out, next, table[place + 1])
+}
+
+pub(crate) fn wide(byte: u8) -> usize
+    ensures { λ r. ⌜ (r ≡ byte) × (r < 256) ⌝ }
+{
+    byte as usize
+}
