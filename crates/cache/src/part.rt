@@ -15,14 +15,21 @@ use state::CacheState;
 use state::CommandState;
 use state::Meeting;
 
+// Where it begins.
+fn start(command: usize) -> usize
+    requires { ⌜ command < commandLimit ⌝ }
+    ensures { λ r. ⌜ (r ≡ partStart command) × (r + heldLimit ≤ storeSize) ⌝ }
+{
+    CacheState::HELD * command
+}
+
 // Sets it to zero.
 pub(crate) fn zero(store: &mut [u8], command: usize)
     requires { ⌜ (command < commandLimit) × (length (now store) ≡ storeSize) ⌝ }
     ensures { λ _. ⌜ now (store .exit) ≡ zeroed (now (store .entry)) command ⌝ }
 {
-    let low = CacheState::HELD * command;
-    let high = low + CacheState::HELD;
-    octets::clear(&mut store[low..high]);
+    let low = start(command);
+    octets::clear(&mut store[low..low + CacheState::HELD]);
 }
 
 // Holds a span in it: the records of the command are replaced by those after the join.
@@ -38,9 +45,9 @@ pub(crate) fn hold(
     requires { ⌜ (command < commandLimit) × (length (now store) ≡ storeSize) × (Fits held m fresh heldLimit (length (now window))) × (behind ≡ total (drop (m .last) (recordsIn held))) ⌝ }
     ensures { λ _. ⌜ now (store .exit) ≡ overwrite (now (store .entry)) (partStart command) (map (sees (recordsIn held) command (now (store .entry)) (now (window .entry))) (addresses (replaced (recordsIn held) m))) ⌝ }
 {
-    let low = CacheState::HELD * command;
-    let high = low + CacheState::HELD;
-    hold::hold(&mut store[low..high], window, held, m, fresh, behind);
+    let low = start(command);
+    let part = &mut store[low..low + CacheState::HELD];
+    hold::hold(part, window, held, m, fresh, behind);
 }
 
 // Copies `size` of its bytes, from a place on, to the front of the destination.
@@ -54,6 +61,6 @@ pub(crate) fn deliver(
     requires { ⌜ (command < commandLimit) × (length (now store) ≡ storeSize) × (place + size ≤ heldLimit) × (size ≤ length (now destination)) ⌝ }
     ensures { λ _. ⌜ now (destination .exit) ≡ overwrite (now (destination .entry)) 0 (part (now (store .entry)) (partStart command + place) size) ⌝ }
 {
-    let from = CacheState::HELD * command + place;
+    let from = start(command) + place;
     octets::copy_front(destination, &store[from..from + size]);
 }

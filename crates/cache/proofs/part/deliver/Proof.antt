@@ -1,5 +1,5 @@
 -- One copy of the span.
-use Prim.Native.Nat.{ℕ, _+_, _-_, _*_, _≤_}
+use Prim.Native.Nat.{ℕ, _+_, _-_, _≤_}
 use native.Mathlib.Omega.{arith}
 use mathlib.Core.Path.{_≡_, ap, _∙_}
 use mathlib.Core.List.{List}
@@ -11,8 +11,8 @@ use Rattle.octets.specs.Lists.{overwrite, part}
 use Rattle.cache.proofs.part.deliver.Statement.{statement}
 use Rattle.cache.proofs.part.deliver.Tie as tie
 
-mul-from : tie.Need-mul-from
-mul-from c = search needs
+start-requires : tie.Need-start-requires
+start-requires c κs = search needs
 
 add-from : tie.Need-add-from
 add-from c = search needs
@@ -45,15 +45,17 @@ whole dest store from size h =
 returns : tie.Need-returns
 returns c =
     let copied = c .before .before in
-    let e = copied .before .before .before .before .before in
+    let begun = copied .before .before .before in
+    let e = begun .before .before .before in
     copied .copy-front .ensures
-    ∙ ap (overwrite (now (e .args .destination)) 0) (whole (now (e .args .destination)) (now (e .args .store)) (4096 * e .args .command + e .args .place) (e .args .size) (omega arith))
+    ∙ ap (overwrite (now (e .args .destination)) 0) (whole (now (e .args .destination)) (now (e .args .store)) (begun .start .result + e .args .place) (e .args .size) (omega arith))
+    ∙ ap (λ (k : ℕ). overwrite (now (e .args .destination)) 0 (part (now (e .args .store)) (k + e .args .place) (e .args .size))) (begun .start .ensures .0)
 
 pub deliver-spec : {M : Type 1} → statement M
 deliver-spec =
     tie.close
     (tie.spec
-    mul-from
+    start-requires
     add-from
     add-copy-front
     sub-copy-front

@@ -1,20 +1,21 @@
 -- The part that was lent comes back zero.
-use Prim.Native.Nat.{ℕ, zero, _+_, _-_, _*_, _≤_}
+use Prim.Native.Nat.{ℕ, zero, _+_, _-_}
 use native.Mathlib.Omega.{arith}
 use mathlib.Core.Path.{_≡_, ap, _∙_}
 use lib.ListN.{length, take, drop, replicate, length-take, length-drop, length-replicate}
 use denote.Ref.{now}
 use borrow.Author.Needs.{needs}
+use Rattle.octets.specs.Lists.{overwrite}
 use Rattle.octets.proofs.Overwrite.{overwrite-mid}
 use Rattle.state.specs.Limits.{heldLimit}
 use Rattle.cache.proofs.part.zero.Statement.{statement}
 use Rattle.cache.proofs.part.zero.Tie as tie
 
-mul-low : tie.Need-mul-low
-mul-low c = search needs
+start-requires : tie.Need-start-requires
+start-requires c κs = search needs
 
-add-high : tie.Need-add-high
-add-high c = search needs
+add-clear : tie.Need-add-clear
+add-clear c = search needs
 
 sub-clear : tie.Need-sub-clear
 sub-clear c = search needs
@@ -33,20 +34,21 @@ same-length c = search needs
 
 returns : tie.Need-returns
 returns c =
-    let store = now (c .before .before .before .before .before .args .store) in
-    let low = 4096 * c .before .before .before .before .before .args .command in
+    let begun = c .before .before .before .before in
+    let store = now (begun .before .before .args .store) in
+    let low = begun .start .result in
     let width : low + 4096 - low ≡ heldLimit = omega arith in
-    let inside : low + 4096 ≤ length store = omega arith in
     let size : length (take (low + 4096 - low) (drop low store)) ≡ heldLimit = simp (length-take, length-drop) (omega arith) in
     let zeros : c .before .before .clear .last .0 ≡ replicate heldLimit 0 = c .before .before .clear .ensures ∙ ap (λ (n : ℕ). replicate n 0) size in
     rw (zeros, width) (overwrite-mid store (replicate heldLimit 0) low heldLimit (length-replicate heldLimit zero))
+    ∙ ap (λ (k : ℕ). overwrite store k (replicate heldLimit 0)) (begun .start .ensures .0)
 
 pub zero-spec : {M : Type 1} → statement M
 zero-spec =
     tie.close
     (tie.spec
-    mul-low
-    add-high
+    start-requires
+    add-clear
     sub-clear
     part-clear-start
     part-clear-end
