@@ -1,0 +1,84 @@
+-- A frame carried out, put together: it is unreadable, or its step is made as a call.
+use Prim.Native.Nat.{ℕ}
+use native.Mathlib.Omega.{arith}
+use mathlib.Core.Path.{_≡_, refl, ap, ap₂, sym, _∙_}
+use mathlib.Core.List.{List, _∷_}
+use mathlib.Core.Bool.{true, false}
+use lib.ListN.{drop, getD}
+use Rattle.state.specs.declared.refusal.Refusal.{Refusal}
+use Rattle.state.specs.Refusals.{number}
+use Rattle.state.specs.Verdict.{Reply, refused, replied, accepted}
+use Rattle.frames.specs.declared.Step.{Step}
+use Rattle.frames.specs.declared.Step.the-variants.{Begin, Fetch, End, HostWrite, OwnWrite}
+use Rattle.frames.specs.Kinds.{kindOf}
+use Rattle.frames.specs.Read.{stepNumbers, readSays, dataOf}
+use Rattle.history.specs.Runs.{Call, says, after, delivers}
+use Rattle.history.specs.Journal.{numbersOf}
+use Rattle.log.specs.declared.line.Answer.the-variants.{Refused}
+use Rattle.journal.specs.declared.step.Made.{Made}
+use Rattle.journal.specs.Step.{callOf, windowLeft, destLeft, Makes}
+use Rattle.journal.specs.Frame.{stepOf, isReadable, takenUp, stepRead, Device, frameCall, frameSays, frameLeaves, frameDelivers, Carries}
+
+-- the step of a step's numbers is the step
+pub step-of : (s : Step) → stepOf (stepNumbers s) ≡ s
+unfolding stepOf
+step-of (Begin c) = refl
+step-of (Fetch c a n) = refl
+step-of (End c) = refl
+step-of (HostWrite a n) = refl
+step-of (OwnWrite c a n) = refl
+
+module _ (d : Device) (frame : List ℕ) where
+  module _ (why : Refusal) (is : readSays frame ≡ refused (number why)) where
+    unread : isReadable frame ≡ false
+    unfolding accepted
+    unread = ap accepted is
+
+    pub carries-unreadable :
+        Carries d frame (record { taken = 0; letter = 63; answer = Refused why; delivered = 0; state = d .machine .state }) (d .machine .store) (d .window) (d .dest)
+    unfolding frameSays frameLeaves frameDelivers
+    carries-unreadable = record {
+      taken = sym (ap (λ (r : Reply). getD (numbersOf r) 0 0) is);
+      letter = sym (rw unread);
+      answer = rw unread (sym is);
+      leaves = rw unread;
+      within = omega arith;
+      delivered = rw unread;
+    }
+
+  module _ (consumed : ℕ) (step : Step) (is : readSays frame ≡ replied (consumed ∷ stepNumbers step)) where
+    read : isReadable frame ≡ true
+    unfolding accepted
+    read = ap accepted is
+
+    taken-is : takenUp frame ≡ consumed
+    taken-is = ap (λ (r : Reply). getD (numbersOf r) 0 0) is
+
+    step-is : stepRead frame ≡ step
+    step-is = ap (λ (r : Reply). stepOf (drop 1 (numbersOf r))) is ∙ step-of step
+
+    abbrev call : Call
+    call = callOf step (dataOf frame consumed) (d .dest) (d .window)
+
+    call-is : frameCall d frame ≡ call
+    call-is = ap₂ (λ (s : Step) (n : ℕ). callOf s (dataOf frame n) (d .dest) (d .window)) step-is taken-is
+
+    pub carries-step :
+        (r : Made) (letter : ℕ) (store′ window′ dest′ : List ℕ) → letter ≡ kindOf (getD (stepNumbers step) 0 0) .letter
+        → Makes (d .machine) (d .window) (d .dest) call r store′ window′ dest′
+        → Carries d frame (record { taken = consumed; letter = letter; answer = r .answer; delivered = r .delivered; state = r .state }) store′ window′ dest′
+    unfolding frameSays frameLeaves frameDelivers
+    carries-step r letter store′ window′ dest′ l M = record {
+      taken = sym taken-is;
+      letter = l ∙ sym (rw read (ap (λ (q : Reply). kindOf (getD (numbersOf q) 1 0) .letter) is));
+      answer = M .answer ∙ ap (says (d .machine)) (sym call-is) ∙ rw read;
+      leaves = left ∙ ap on (sym call-is) ∙ rw read;
+      within = M .within;
+      delivered = M .delivered ∙ ap (delivers (d .machine)) (sym call-is) ∙ rw read;
+    }
+      where
+        on : Call → Device
+        on p = record { machine = after (d .machine) p; window = windowLeft (d .machine) p (d .window); dest = destLeft (d .machine) p (d .dest) }
+
+        left : record { machine = record { state = r .state; store = store′ }; window = window′; dest = dest′ } ≡ on call
+        left = λ i. record { machine = record { state = M .state i; store = M .stored i }; window = M .host i; dest = M .given i }

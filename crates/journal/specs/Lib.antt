@@ -1,0 +1,4 @@
+pub mod Step
+pub mod Frame
+pub mod Run
+pub mod Export

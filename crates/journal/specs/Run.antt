@@ -1,0 +1,81 @@
+-- A whole journal, for any bytes (01, "The log program"): frame after frame is carried out on what the one before it left, and an
+-- unreadable frame ends the run.
+use Prim.Native.Nat.{ℕ, zero, suc, _+_}
+use mathlib.Core.Path.{_≡_}
+use mathlib.Core.List.{List, [], _∷_, _++_}
+use mathlib.Core.Bool.{Bool, true, false, not, cond, _&&_, _||_}
+use lib.ListN.{length, drop}
+use Rattle.state.specs.Verdict.{Reply, accepted}
+use Rattle.log.specs.Text.{ascii, decimal, Puts}
+use Rattle.log.specs.Line.{lineOf}
+use Rattle.journal.specs.declared.line.Logged.{Logged}
+use Rattle.journal.specs.declared.run.Replayed.{Replayed}
+use Rattle.journal.specs.Frame.{Device, isReadable, takenUp, letterOf, frameSays, frameLeaves, frameDelivers}
+
+-- what the log tells of a frame
+pub record Entry : Type 0 where
+  pub readable : Bool
+  pub letter : ℕ
+  pub reply : Reply
+  pub delivered : List ℕ
+
+abbrev pub entryOf : Device → (frame : List ℕ) → Entry
+entryOf d frame = record { readable = isReadable frame; letter = letterOf frame; reply = frameSays d frame; delivered = frameDelivers d frame }
+
+-- The entries of a journal, and what it leaves. The steps only bound the recursion: every frame takes up a byte at least, so as many
+-- steps as there are bytes are enough.
+unfoldable pub entriesIn : (steps : ℕ) → Device → (input : List ℕ) → List Entry
+entriesIn zero d input = []
+entriesIn (suc steps) d [] = []
+entriesIn (suc steps) d (x ∷ xs) =
+    entryOf d (x ∷ xs) ∷ elim (isReadable (x ∷ xs)) [ true ↦ entriesIn steps (frameLeaves d (x ∷ xs)) (drop (takenUp (x ∷ xs)) (x ∷ xs)) | false ↦ [] ]
+
+unfoldable pub leftIn : (steps : ℕ) → Device → (input : List ℕ) → Device
+leftIn zero d input = d
+leftIn (suc steps) d [] = d
+leftIn (suc steps) d (x ∷ xs) = elim (isReadable (x ∷ xs)) [ true ↦ leftIn steps (frameLeaves d (x ∷ xs)) (drop (takenUp (x ∷ xs)) (x ∷ xs)) | false ↦ d ]
+
+abbrev pub entries : Device → (input : List ℕ) → List Entry
+entries d input = entriesIn (length input) d input
+
+abbrev pub journalLeaves : Device → (input : List ℕ) → Device
+journalLeaves d input = leftIn (length input) d input
+
+-- 01's log: a line for each entry, numbered from n on
+unfoldable pub logFrom : ℕ → List Entry → List ℕ
+logFrom n [] = []
+logFrom n (e ∷ es) = lineOf n (e .letter) (e .reply) (e .delivered) ++ logFrom (suc n) es
+
+-- how many frames were carried out, how many a call refused, and whether an unreadable one ended the run
+unfoldable pub count : (Entry → Bool) → List Entry → ℕ
+count test [] = 0
+count test (e ∷ es) = cond (test e) 1 0 + count test es
+
+abbrev pub wasCarried : Entry → Bool
+wasCarried e = e .readable && accepted (e .reply)
+
+abbrev pub wasRefused : Entry → Bool
+wasRefused e = e .readable && not (accepted (e .reply))
+
+unfoldable pub endsEarly : List Entry → Bool
+endsEarly [] = false
+endsEarly (e ∷ es) = not (e .readable) || endsEarly es
+
+-- the three in decimal on one line, 1 for a run that ended early
+unfoldable pub summaryOf : (carried refused : ℕ) → (early : Bool) → List ℕ
+summaryOf carried refused early = decimal carried ++ ascii " " ++ decimal refused ++ cond early (ascii " 1\n") (ascii " 0\n")
+
+-- one frame carried out by the code, and its line put into a buffer
+pub record Logs (d : Device) (number : ℕ) (frame : List ℕ) (out : List ℕ) (at : ℕ) (r : Logged) (store′ window′ dest′ out′ : List ℕ) : Type 0 where
+  pub taken : r .taken ≡ takenUp frame
+  pub accepted : r .accepted ≡ accepted (frameSays d frame)
+  pub leaves : record { machine = record { state = r .state; store = store′ }; window = window′; dest = dest′ } ≡ frameLeaves d frame
+  pub line : Puts out at (lineOf number (letterOf frame) (frameSays d frame) (frameDelivers d frame)) (r .next) out′
+
+-- a journal run by the code: the log is put into the output as far as it fits
+pub record Replays (d : Device) (input : List ℕ) (out : List ℕ) (r : Replayed) (store′ window′ dest′ out′ : List ℕ) : Type 0 where
+  pub log : Puts out 0 (logFrom 1 (entries d input)) (r .written) out′
+  pub leaves : record { machine = record { state = r .state; store = store′ }; window = window′; dest = dest′ } ≡ journalLeaves d input
+  pub carried : r .carried ≡ count wasCarried (entries d input)
+  pub refused : r .refused ≡ count wasRefused (entries d input)
+  pub early : r .early ≡ endsEarly (entries d input)

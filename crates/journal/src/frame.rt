@@ -1,0 +1,74 @@
+// One frame is carried out: read, and its call made.
+ghost use mathlib.Core.Path.{_≡_};
+ghost use lib.ListN.{getD};
+ghost use Rattle.frames.specs.Kinds.{kindOf};
+ghost use Rattle.frames.specs.Read.{stepNumbers};
+ghost use Rattle.journal.specs.Step.{machine};
+ghost use Rattle.journal.specs.Frame.{Carries};
+use crate::step::make;
+use frames::ReadAnswer;
+use frames::Step;
+use frames::tables;
+use log::Answer;
+use state::CacheState;
+
+// How many bytes the frame took up (none if it is unreadable), its letter, the answer, how many bytes were delivered to the front of
+// the destination, and the state after it.
+pub struct Carried {
+    pub taken: usize,
+    pub letter: u8,
+    pub answer: Answer,
+    pub delivered: usize,
+    pub state: CacheState,
+}
+
+// The letter of an unreadable frame.
+const UNREADABLE: u8 = b'?';
+
+fn letter(step: Step) -> u8
+    ensures { λ r. ⌜ r ≡ kindOf (getD (stepNumbers step) 0 0) .letter ⌝ }
+{
+    match step {
+        Step::Begin { .. } => tables::letter(0),
+        Step::Fetch { .. } => tables::letter(1),
+        Step::End { .. } => tables::letter(2),
+        Step::HostWrite { .. } => tables::letter(3),
+        Step::OwnWrite { .. } => tables::letter(4),
+    }
+}
+
+pub fn carry_out(
+    frame: &[u8],
+    state: CacheState,
+    store: &mut [u8],
+    window: &mut [u8],
+    destination: &mut [u8],
+) -> Carried
+    ensures { λ r. ⌜ Carries (record { machine = machine state (now (store .entry)); window = now (window .entry); dest = now (destination .entry) }) (now (frame .entry)) r (now (store .exit)) (now (window .exit)) (now (destination .exit)) ⌝ }
+{
+    let reading = frames::read(frame);
+    match reading {
+        ReadAnswer::Refused(why) => Carried {
+            taken: 0,
+            letter: UNREADABLE,
+            answer: Answer::Refused(why),
+            delivered: 0,
+            state,
+        },
+        ReadAnswer::Step(parsed) => {
+            let consumed = parsed.consumed;
+            let step = parsed.step;
+            let bytes = frames::data(frame, consumed);
+            let made = make(step, bytes, state, store, window, destination);
+            let answer = made.answer;
+            let next = made.state;
+            Carried {
+                taken: consumed,
+                letter: letter(step),
+                answer,
+                delivered: made.delivered,
+                state: next,
+            }
+        }
+    }
+}
