@@ -2,8 +2,8 @@
 //! book that holds together is to be served by the same rules.
 
 use reference::book::{Book, CommandBook};
+use sampling::generator::Generator;
 
-use crate::generator::Generator;
 use crate::model::Model;
 use crate::random_lists::{one_call, Profile, Tally};
 use crate::scene::{open_with, Scene};

@@ -2,8 +2,8 @@
 //! the books that only just hold together.
 
 use reference::book::{Book, CommandBook, Span};
+use sampling::generator::Generator;
 
-use crate::generator::Generator;
 use crate::scene::{evenly, open_with, Scene};
 
 /// A command whose entry at a place is set to a span, all else as it was.

@@ -2,9 +2,8 @@
 //! the writer makes, both held against the bit layout of 01.
 
 use reference::frames::{read_frame, write_frame, Frame, Step};
-
-use crate::generator::Generator;
-use crate::layout::{frame, head};
+use sampling::generator::Generator;
+use sampling::layout::{frame, head};
 
 /// A step as the four numbers and the data that the writer takes.
 fn numbers_of<'a>(step: &Step<'a>) -> (u64, u64, u64, u64, &'a [u8]) {

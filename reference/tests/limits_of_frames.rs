@@ -2,8 +2,7 @@
 //! with the values on each side of its limit.
 
 use reference::frames::{read_frame, write_frame};
-
-use crate::layout::{frame, head};
+use sampling::layout::{frame, head};
 
 /// What the reader answers: the bytes taken up, or the refusal number.
 fn read(bytes: &[u8]) -> Result<usize, u8> {

@@ -2,9 +2,9 @@
 //! frame that cannot be read.
 
 use reference::log;
+use sampling::generator::Generator;
+use sampling::layout::{frame, head};
 
-use crate::generator::Generator;
-use crate::layout::{frame, head};
 use crate::model::Model;
 
 #[test]

@@ -5,8 +5,8 @@
 use std::collections::BTreeSet;
 
 use reference::frames::{read_frame, write_frame};
+use sampling::layout::{frame, head};
 
-use crate::layout::{frame, head};
 use crate::scene::{evenly, open_with, Scene};
 
 /// All choices from the given numbers, the empty one included.

@@ -5,8 +5,9 @@
 use std::collections::BTreeMap;
 
 use reference::book::{Book, CommandBook};
+use sampling::generator::Generator;
+use sampling::spans;
 
-use crate::generator::Generator;
 use crate::model::Model;
 use crate::scene::{open_with, Scene};
 
@@ -192,11 +193,7 @@ fn many_small_spans_up_to_the_last_record() {
         window_length: 1_000,
         commands: 1,
         ends: 200,
-        span: |generator, window| {
-            let longest = if generator.one_in(6) { 30 } else { 2 };
-            let length = generator.between(1, longest);
-            (generator.below(window - length), length)
-        },
+        span: spans::small,
     });
     assert!(tally.refused(24) > 2_500, "{tally:?}");
     assert!(tally.joins > 500, "{tally:?}");
@@ -211,10 +208,7 @@ fn large_spans_up_to_the_last_held_byte() {
         window_length: 9_000,
         commands: 2,
         ends: 20,
-        span: |generator, window| {
-            let length = generator.between(500, 4_150);
-            (generator.below(window + 10 - length), length)
-        },
+        span: spans::large,
     });
     assert!(tally.refused(23) > 2_500, "{tally:?}");
     assert!(tally.refused(4) > 100, "{tally:?}");
@@ -230,7 +224,7 @@ fn overlapping_spans_in_a_narrow_place() {
         window_length: 700,
         commands: 2,
         ends: 100,
-        span: |generator, window| (generator.below(window - 40), generator.below(41)),
+        span: spans::overlapping,
     });
     assert!(tally.joins > 1_000 && tally.mixed > 2_500, "{tally:?}");
 }
@@ -244,14 +238,7 @@ fn touching_spans_and_some_across_the_borders() {
         window_length: 512,
         commands: 1,
         ends: 60,
-        span: |generator, _| {
-            let start = 8 * generator.below(60);
-            if generator.one_in(5) {
-                (start + 4, 8 * generator.between(1, 3))
-            } else {
-                (start, 8)
-            }
-        },
+        span: spans::touching,
     });
     assert!(tally.joins > 250 && tally.mixed > 1_000, "{tally:?}");
 }
@@ -265,10 +252,7 @@ fn nested_spans_in_and_around_each_other() {
         window_length: 4_300,
         commands: 2,
         ends: 15,
-        span: |generator, window| {
-            let length = window - generator.between(204, window);
-            ((window - length) / 2, length)
-        },
+        span: spans::nested,
     });
     assert!(tally.mixed > 1_000, "{tally:?}");
     assert_eq!(tally.joins, 0);
@@ -283,7 +267,7 @@ fn empty_spans_and_the_end_of_the_window() {
         window_length: 65_536,
         commands: 2,
         ends: 30,
-        span: |generator, window| (window - 6 + generator.below(8), generator.below(4)),
+        span: spans::at_the_end,
     });
     assert!(tally.refused(9) > 2_500, "{tally:?}");
     assert!(tally.empty > 1_000, "{tally:?}");
@@ -298,10 +282,7 @@ fn all_eight_commands_with_many_ends_and_begins() {
         window_length: 2_000,
         commands: 8,
         ends: 8,
-        span: |generator, window| {
-            let length = generator.below(200);
-            (generator.below(window - 100), length)
-        },
+        span: spans::medium,
     });
     for number in [6, 9, 21, 22, 25] {
         assert!(tally.refused(number) > 100, "{tally:?}");
@@ -317,11 +298,7 @@ fn spans_of_all_sizes_over_the_whole_window() {
         window_length: 16_384,
         commands: 8,
         ends: 60,
-        span: |generator, window| {
-            let largest = [1, 4, 60, 700, 4_097][generator.below(5) as usize];
-            let length = generator.between(0, largest);
-            (generator.below(window + 3), length)
-        },
+        span: spans::any_size,
     });
     assert!(tally.accepted_fetches > 8_000, "{tally:?}");
     assert!(tally.refused(9) > 100, "{tally:?}");

@@ -4,8 +4,7 @@
 use reference::book::{Book, CommandBook, Span};
 use reference::cache;
 use reference::refusal::Refusal;
-
-use crate::generator::Generator;
+use sampling::generator::Generator;
 
 /// A book and the three buffers.
 #[derive(Clone, PartialEq, Eq)]

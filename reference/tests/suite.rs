@@ -1,8 +1,6 @@
 //! The tests of the reference, one file for each matter. A new file is listed
 //! here, or it is not run.
 
-mod generator;
-mod layout;
 mod model;
 mod scene;
 

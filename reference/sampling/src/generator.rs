@@ -6,7 +6,7 @@ pub struct Generator(u64);
 impl Generator {
     /// A generator whose numbers depend on the seed alone.
     pub fn new(seed: u64) -> Generator {
-        let spread = (seed + 1).wrapping_mul(0x9e37_79b9_7f4a_7c15);
+        let spread = seed.wrapping_add(1).wrapping_mul(0x9e37_79b9_7f4a_7c15);
         let mut generator = Generator(spread | 1);
         for _ in 0..8 {
             generator.next();
