@@ -1,3 +1,5 @@
 pub mod Steps
 pub mod Frames
 pub mod Running
+pub mod Claims
+pub mod Worked

@@ -1,0 +1,42 @@
+-- A journal of frames is a list of calls, so that the claims over lists of calls hold of its log.
+use Prim.Native.Nat.{ℕ, zero, suc}
+use mathlib.Core.Path.{_≡_}
+use mathlib.Core.List.{List, [], _∷_, map}
+use mathlib.Core.Bool.{true, false, cond}
+use lib.ListN.{length, drop}
+use Rattle.history.specs.Runs.{Call, says, delivers, along, ran}
+use Rattle.history.specs.Journal.{journal, told}
+use Rattle.history.specs.Firsts.{owed}
+use Rattle.journal.specs.Frame.{Device, isReadable, takenUp, frameCall, frameLeaves}
+use Rattle.journal.specs.Run.{Entry, entries, journalLeaves}
+use Rattle.journal.specs.Export.{freshDevice}
+
+-- the calls of a journal's readable frames, in their order; each is given the window that the one before it left
+unfoldable pub callsIn : (steps : ℕ) → Device → (input : List ℕ) → List Call
+callsIn zero d input = []
+callsIn (suc steps) d [] = []
+callsIn (suc steps) d (x ∷ xs) = elim (isReadable (x ∷ xs)) [ true ↦ frameCall d (x ∷ xs) ∷ callsIn steps (frameLeaves d (x ∷ xs)) (drop (takenUp (x ∷ xs)) (x ∷ xs)) | false ↦ [] ]
+
+abbrev pub calls : Device → (input : List ℕ) → List Call
+calls d input = callsIn (length input) d input
+
+-- the entries of readable frames
+unfoldable pub ofCalls : List Entry → List Entry
+ofCalls [] = []
+ofCalls (e ∷ es) = cond (e .readable) (e ∷ ofCalls es) (ofCalls es)
+
+-- what the log tells of each is what the call answers and delivers, and what the journal leaves is what the calls leave
+pub record IsRun (d : Device) (input : List ℕ) : Type 0 where
+  pub answers : map (λ e. e .reply) (ofCalls (entries d input)) ≡ along says (d .machine) (calls d input)
+  pub delivered : map (λ e. e .delivered) (ofCalls (entries d input)) ≡ along delivers (d .machine) (calls d input)
+  pub leaves : journalLeaves d input .machine ≡ ran (d .machine) (calls d input)
+
+abbrev pub JournalIsRun : Type 0
+JournalIsRun = (d : Device) (input : List ℕ) → IsRun d input
+
+-- So the bytes in the log of a journal from the fresh state are those that the first fetches since each command's begin saw.
+abbrev pub LogDelivers : Type 0
+LogDelivers =
+    (store window dest input : List ℕ) →
+    let d = freshDevice store window dest in
+    map (λ e. e .delivered) (ofCalls (entries d input)) ≡ told owed [] (journal store (calls d input))
