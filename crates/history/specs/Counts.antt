@@ -5,8 +5,8 @@ use mathlib.Core.Bool.{cond}
 use lib.Dec.{eqb}
 use lib.ListN.{length, getD, drop}
 use Rattle.state.specs.Records.{span}
-use Rattle.state.specs.Verdict.{Reply}
-use Rattle.history.specs.Journal.{Event, Deed, began, fetched, ended, other, deed, numbersOf}
+use Rattle.state.specs.Verdict.{Reply, numbersOf}
+use Rattle.history.specs.Journal.{Event, Deed, began, fetched, ended, other, deed}
 use Rattle.history.specs.Firsts.{Memory, memory, firstsAmong}
 
 -- the two counts that an accepted fetch replied

@@ -3,7 +3,7 @@
 use Prim.Native.Nat.{ℕ}
 use mathlib.Core.List.{List, [], _∷_}
 use mathlib.Core.Bool.{Bool, true, false}
-use Rattle.state.specs.Verdict.{Reply, refused, replied, accepted}
+use Rattle.state.specs.Verdict.{Reply, accepted}
 use Rattle.history.specs.Runs.{Call, begin, fetch, end, hostWrite, ownWrite, show, Machine, start, says, along}
 
 pub record Event : Type 0 where
@@ -44,8 +44,3 @@ deedOf true (show c i) = other
 
 abbrev pub deed : Event → Deed
 deed e = deedOf (accepted (e .answer)) (e .call)
-
--- the numbers of a reply
-abbrev pub numbersOf : Reply → List ℕ
-numbersOf (refused n) = []
-numbersOf (replied ns) = ns

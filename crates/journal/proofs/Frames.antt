@@ -7,13 +7,12 @@ use mathlib.Core.Bool.{true, false}
 use lib.ListN.{drop, getD}
 use Rattle.state.specs.declared.refusal.Refusal.{Refusal}
 use Rattle.state.specs.Refusals.{number}
-use Rattle.state.specs.Verdict.{Reply, refused, replied, accepted}
+use Rattle.state.specs.Verdict.{Reply, refused, replied, accepted, numbersOf}
 use Rattle.frames.specs.declared.Step.{Step}
 use Rattle.frames.specs.declared.Step.the-variants.{Begin, Fetch, End, HostWrite, OwnWrite}
 use Rattle.frames.specs.Kinds.{kindOf}
 use Rattle.frames.specs.Read.{stepNumbers, readSays, dataOf}
 use Rattle.history.specs.Runs.{Call, says, after, delivers}
-use Rattle.history.specs.Journal.{numbersOf}
 use Rattle.log.specs.declared.line.Answer.the-variants.{Refused}
 use Rattle.journal.specs.declared.step.Made.{Made}
 use Rattle.journal.specs.Step.{callOf, windowLeft, destLeft, Makes}

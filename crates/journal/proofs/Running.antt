@@ -8,11 +8,10 @@ use mathlib.Core.List.{List, [], _∷_, _++_, append-nil, append-assoc}
 use mathlib.Core.Bool.{Bool, true, false, false≢true, not, cond}
 use lib.ListN.{length, drop, getD, length-drop, drop-of-length-le}
 use lib.Seq.{drop-drop}
-use Rattle.state.specs.Verdict.{Reply, refused, replied, accepted}
+use Rattle.state.specs.Verdict.{Reply, refused, replied, accepted, numbersOf}
 use Rattle.frames.specs.Read.{readSays}
 use Rattle.frames.specs.Layout.{fieldsOf}
 use Rattle.frames.proofs.Accepted.{readable, reads}
-use Rattle.history.specs.Journal.{numbersOf}
 use Rattle.log.specs.Text.{Puts}
 use Rattle.log.specs.Line.{lineOf}
 use Rattle.log.proofs.Putting.{puts-is, puts-none, puts-both}

@@ -6,13 +6,12 @@ use mathlib.Core.List.{List, []}
 use mathlib.Core.Bool.{Bool, cond}
 use lib.Dec.{eqb}
 use lib.ListN.{length, take, drop, getD}
-use Rattle.state.specs.Verdict.{Reply, accepted}
+use Rattle.state.specs.Verdict.{Reply, accepted, numbersOf}
 use Rattle.frames.specs.declared.Step.{Step}
 use Rattle.frames.specs.declared.Step.the-variants.{Begin, Fetch, End, HostWrite, OwnWrite}
 use Rattle.frames.specs.Kinds.{kindOf}
 use Rattle.frames.specs.Read.{readSays, dataOf}
 use Rattle.history.specs.Runs.{Call, Machine, says, after, delivers}
-use Rattle.history.specs.Journal.{numbersOf}
 use Rattle.log.specs.Line.{answerReply}
 use Rattle.journal.specs.declared.frame.Carried.{Carried}
 use Rattle.journal.specs.Step.{callOf, windowLeft, destLeft}

@@ -17,11 +17,6 @@ answerReply (Count n) = replied (n ∷ [])
 answerReply (Counts m n) = replied (m ∷ n ∷ [])
 answerReply (Refused r) = refused (number r)
 
--- the numbers of a reply
-abbrev pub numbersOf : Reply → List ℕ
-numbersOf (refused k) = []
-numbersOf (replied ns) = ns
-
 -- 01's letter of a fetch
 abbrev pub fetchLetter : ℕ
 fetchLetter = code "F"

@@ -6,8 +6,9 @@ use crate::text::put_hex;
 use crate::text::wide;
 use state::Refusal;
 ghost use mathlib.Core.List.{_++_, map};
+ghost use Rattle.state.specs.Verdict.{numbersOf};
 ghost use Rattle.log.specs.Text.{ascii, decimal, Puts};
-ghost use Rattle.log.specs.Line.{answerReply, numbersOf, deliveredFields, answerFields, spaced, lineOf, tooLong};
+ghost use Rattle.log.specs.Line.{answerReply, deliveredFields, answerFields, spaced, lineOf, tooLong};
 
 // What was done with a frame.
 pub enum Answer {

@@ -13,6 +13,11 @@ unfoldable pub accepted : Reply → Bool
 accepted (refused n) = false
 accepted (replied ns) = true
 
+-- the numbers of a reply
+abbrev pub numbersOf : Reply → List ℕ
+numbersOf (refused n) = []
+numbersOf (replied ns) = ns
+
 -- a reason to turn a call away: whether it applies, and its number
 pub record Check : Type 0 where
   pub applies : Bool

@@ -9,7 +9,8 @@ use borrow.Author.Needs.{needs}
 use Rattle.log.specs.declared.line.Answer.{Answer}
 use Rattle.log.specs.declared.line.Answer.the-variants.{Done, Count, Counts, Refused}
 use Rattle.log.specs.Text.{ascii, decimal, Puts}
-use Rattle.log.specs.Line.{answerReply, numbersOf, spaced}
+use Rattle.state.specs.Verdict.{numbersOf}
+use Rattle.log.specs.Line.{answerReply, spaced}
 use Rattle.log.proofs.Putting.{puts-is, puts-both}
 use Rattle.log.proofs.line.Answer.{the-type}
 use Rattle.log.proofs.line.put_numbers.Statement.{statement}
