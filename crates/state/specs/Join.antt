@@ -49,6 +49,10 @@ entryAfter entries m k =
     cond (ltb k (m .first)) (getD entries k noRecord)
     (cond (eqb k (m .first)) (unionOf m) (getD entries (m .last + (k - suc (m .first))) noRecord))
 
+-- the entry up to which entries change
+unfoldable pub changedUpTo : Meeting → ℕ
+changedUpTo m = cond (eqb (m .last) (m .first + 1)) (m .last) recordLimit
+
 unfoldable pub spliced : CommandState → Meeting → CommandState
 spliced p m = record {
   opened = p .opened;

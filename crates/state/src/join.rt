@@ -4,7 +4,7 @@ ghost use Prim.Native.Nat.{_≤_, _<_};
 ghost use lib.ListN.{length};
 ghost use Rattle.state.specs.Limits.{recordLimit};
 ghost use Rattle.state.specs.State.{recordsIn};
-ghost use Rattle.state.specs.Join.{meeting, entryAfter, spliced, Joins};
+ghost use Rattle.state.specs.Join.{meeting, entryAfter, changedUpTo, spliced, Joins};
 ghost use Rattle.state.specs.Bounds.{Counted, Passed};
 use super::CacheState;
 use super::CommandState;
@@ -108,15 +108,28 @@ impl CommandState {
         Record { start: 0, len: 0 }
     }
 
+    // The entry up to which entries change: where the union takes the place of one record, the others keep theirs.
+    fn changed_up_to(m: Meeting) -> usize
+        requires { ⌜ (m .first ≤ m .last) × (m .last ≤ recordLimit) ⌝ }
+        ensures { λ r. ⌜ (r ≡ changedUpTo m) × (m .first ≤ r) × (r ≤ recordLimit) ⌝ }
+    {
+        if m.last == m.first + 1 {
+            m.last
+        } else {
+            CacheState::RECORDS
+        }
+    }
+
     // The command with the union in the place of the records that were met.
     fn spliced(self, m: Meeting) -> CommandState
         requires { ⌜ (m .first ≤ m .last) × (m .last ≤ length (recordsIn self)) ⌝ }
         ensures { λ r. ⌜ r ≡ spliced self m ⌝ }
     {
         let used = self.used();
+        let end = CommandState::changed_up_to(m);
         let mut next = self;
-        let mut k = 0;
-        while k < CacheState::RECORDS {
+        let mut k = m.first;
+        while k < end {
             let r = self.entry_after(m, k);
             next.records[k] = r;
             k = k + 1;

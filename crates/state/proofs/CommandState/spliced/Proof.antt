@@ -1,28 +1,36 @@
--- After k turns k entries are written, and the others are the old ones.
+-- The first k entries are written, and the others are the old ones.
 use native.Mathlib.Omega.{arith}
-use Prim.Native.Nat.{_-_}
-use mathlib.Core.Path.{_≡_, refl}
+use Prim.Native.Nat.{_-_, _≤_}
+use mathlib.Core.Path.{_≡_, refl, ap, _∙_}
 use lib.ListN.{length, length-map}
 use borrow.Author.Needs.{needs}
 use Rattle.state.specs.Limits.{recordLimit}
-use Rattle.state.proofs.Splice.{written, none-written, one-written, all-written, is-spliced}
+use Rattle.state.specs.Join.{changedUpTo}
+use Rattle.state.proofs.Splice.{written, none-written, one-written, rest-written, is-spliced}
 use Rattle.state.proofs.CommandState.spliced.Statement.{statement}
 use Rattle.state.proofs.CommandState.spliced.Tie as tie
 
 abbrev Inv-loop : tie.InvT-loop
-Inv-loop self m used next₀ k₀ next k = (next .opened ≡ self .opened) × (next .records ≡ written self m k)
+Inv-loop self m used end next₀ k₀ next k = (next .opened ≡ self .opened) × (next .records ≡ written self m k) × (k ≤ end)
 
 abbrev μ-loop : tie.MeasureT-loop
-μ-loop self m used next₀ k₀ next k = recordLimit - k
+μ-loop self m used end next₀ k₀ next k = end - k
 
 used-requires : tie.Need-used-requires Inv-loop μ-loop
 used-requires c κs = search needs
 
+changed-up-to-requires : tie.Need-changed-up-to-requires Inv-loop μ-loop
+changed-up-to-requires c κs = omega arith
+
+-- what its type gives
+size : (c : tie.Start Inv-loop μ-loop) → length (c .args .self .records) ≡ recordLimit
+size c = simp length-map at (c .good .0 .1 .1 .1 .1 .0 .1 .0 .1)
+
 loop-holds : tie.Need-loop-holds Inv-loop μ-loop
-loop-holds c = (refl, none-written (c .before .args .self) (c .before .args .m))
+loop-holds c = (refl, none-written (c .before .before .args .self) (c .before .before .args .m) (size (c .before .before)) (omega arith), omega arith)
 
 entry-after-requires : tie.Need-entry-after-requires Inv-loop μ-loop
-entry-after-requires c κs = search needs
+entry-after-requires c κs = omega arith
 
 mul-r : tie.Need-mul-r Inv-loop μ-loop
 mul-r c = omega arith
@@ -38,8 +46,12 @@ loop-less c = omega arith
 
 loop-again : tie.Need-loop-again Inv-loop μ-loop
 loop-again c =
-    let size : length (c .before .before .before .before .args .self .records) ≡ recordLimit = simp length-map at (c .before .before .before .before .good .0 .1 .1 .1 .1 .0 .1 .0 .1) in
-    (c .before .before .loop .inv .0, one-written (c .before .before .before .before .args .self) (c .before .before .before .before .args .m) size (c .before .before .loop .next .records) (c .before .before .loop .k) (c .before .before .loop .inv .1) (c .entry-after .result) (omega arith) (c .entry-after .ensures))
+    let at-loop = c .before .before in
+    let e = at-loop .before .before .before in (
+      at-loop .loop .inv .0,
+      one-written (e .args .self) (e .args .m) (size e) (at-loop .loop .next .records) (at-loop .loop .k) (at-loop .loop .inv .1) (c .entry-after .result) (omega arith) (c .entry-after .ensures),
+      omega arith,
+    )
 
 add-next : tie.Need-add-next Inv-loop μ-loop
 add-next c = omega arith
@@ -52,9 +64,11 @@ add-next-2 c = omega arith
 
 returns : tie.Need-returns Inv-loop μ-loop
 returns c =
-    let size : length (c .before .before .before .before .before .args .self .records) ≡ recordLimit = simp length-map at (c .before .before .before .before .before .good .0 .1 .1 .1 .1 .0 .1 .0 .1) in
-    is-spliced (c .before .before .before .before .before .args .self) (c .before .before .before .before .before .args .m) _ _ _ (c .before .before .before .loop .inv .0) (omega arith)
-    (all-written (c .before .before .before .before .before .args .self) (c .before .before .before .before .before .args .m) size (c .before .before .before .loop .next .records) (c .before .before .before .loop .k) (c .before .before .before .loop .inv .1) (omega arith))
+    let at-loop = c .before .before .before in
+    let e = at-loop .before .before .before in
+    let all : at-loop .loop .k ≡ changedUpTo (e .args .m) = omega (arith, at-loop .before .changed-up-to .ensures .0) in
+    is-spliced (e .args .self) (e .args .m) _ _ _ (at-loop .loop .inv .0) (omega arith)
+    (at-loop .loop .inv .1 ∙ ap (written (e .args .self) (e .args .m)) all ∙ rest-written (e .args .self) (e .args .m) (size e) (omega arith))
 
 pub spliced-spec : {M : Type 1} → statement M
 spliced-spec =
@@ -63,6 +77,7 @@ spliced-spec =
     Inv-loop
     μ-loop
     used-requires
+    changed-up-to-requires
     loop-holds
     entry-after-requires
     mul-r
