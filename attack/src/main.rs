@@ -1,0 +1,65 @@
+//! `attack`: the host changes a retire list between the check of its count
+//! and its use.
+//!
+//! - [`host`]: the window, and the thread that writes it.
+//! - [`device`]: the journals, run through the proved library.
+//! - [`race`]: the attack through the cache and around it.
+//! - [`pages`]: held spans while the window cannot be read.
+
+mod device;
+mod host;
+mod pages;
+mod race;
+
+use std::env;
+use std::process::ExitCode;
+
+const USAGE: &str = "\
+usage: attack [--runs N]
+
+A second thread writes 4 and 40 over the count of a retire list as fast as it
+can. Each of N runs (100000) checks the count and then uses the list in three
+ways: by two plain reads, by two commands of the cache, and by one command.
+Then a span is fetched while the window cannot be read.
+
+Status: 0 if checked and used count differ at times in the first two ways and
+never in the third, and held spans are served without the window; else 1. 2 if
+the words are not as above.
+";
+
+fn main() -> ExitCode {
+    let Some(runs) = parse(env::args().skip(1)) else {
+        eprint!("{USAGE}");
+        return ExitCode::from(2);
+    };
+    let seen = race::run(runs);
+    print!("{seen}");
+    let served = served_without_a_window();
+    if seen.is_good() && served {
+        ExitCode::SUCCESS
+    } else {
+        println!("failed");
+        ExitCode::FAILURE
+    }
+}
+
+/// Makes the trials with a window that is closed, and tells of each.
+fn served_without_a_window() -> bool {
+    println!("a window that cannot be read:");
+    let results = pages::trials().into_iter().map(|trial| {
+        let result = trial.run();
+        let told = result.as_ref().err().map_or("as it must be", |why| why);
+        println!("  {}: {told}", trial.name);
+        result.is_ok()
+    });
+    results.fold(true, |all, good| all && good)
+}
+
+/// The number of runs; nothing if the words are not as [`USAGE`] says.
+fn parse(mut words: impl Iterator<Item = String>) -> Option<u64> {
+    match (words.next().as_deref(), words.next(), words.next()) {
+        (None, _, _) => Some(100_000),
+        (Some("--runs"), Some(number), None) => number.parse().ok().filter(|runs| *runs > 0),
+        _ => None,
+    }
+}
