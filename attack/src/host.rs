@@ -3,16 +3,17 @@
 //! What that means for the boundary. The library is proved for a window that
 //! nobody writes during a call: the host puts there what it likes before each
 //! one. This program breaks that on purpose, so a run is outside the proof. In
-//! the code the one place that reads the window copies each byte once into the
-//! store, and every fetch is delivered from the store; but those are plain
-//! loads, and a compiler may repeat a plain load of memory that it takes to be
-//! unshared. So whoever lends a live host window has duties: it must be raw
-//! memory and never a Rust reference, since a reference promises that nobody
-//! writes; the compiled code that is shipped must be shown to load each byte
-//! once, by its listing or by a trial such as this; and where that is not
-//! enough the boundary copies what a call may read, by volatile loads, and
-//! lends the copy. The store, the state and the destination must not be
-//! reachable by the host at all.
+//! the code one function reads the window, into the store, and every fetch is
+//! delivered from the store: what that copy left is what is served until the
+//! command ends, however often the copy itself looked. But its loads are plain
+//! ones, and a compiler that takes the window to be unshared may put a second
+//! load of it in the place of a load of the store. So whoever lends a live
+//! window has duties: it is raw memory and never a Rust reference, since a
+//! reference promises that nobody writes; the compiled code that is shipped is
+//! shown to deliver from the store alone, by its listing or by a trial such as
+//! this; and where that is not enough, the boundary copies what a call may read
+//! by volatile loads and lends the copy. The store and the destination must be
+//! out of the host's reach.
 
 use std::ptr;
 use std::sync::atomic::{AtomicBool, AtomicU64, Ordering};

@@ -46,13 +46,14 @@ fn main() -> ExitCode {
 /// Makes the trials with a window that is closed, and tells of each.
 fn served_without_a_window() -> bool {
     println!("a window that cannot be read:");
-    let results = pages::trials().into_iter().map(|trial| {
+    let mut good = true;
+    for trial in pages::trials() {
         let result = trial.run();
         let told = result.as_ref().err().map_or("as it must be", |why| why);
         println!("  {}: {told}", trial.name);
-        result.is_ok()
-    });
-    results.fold(true, |all, good| all && good)
+        good &= result.is_ok();
+    }
+    good
 }
 
 /// The number of runs; nothing if the words are not as [`USAGE`] says.
