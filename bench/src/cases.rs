@@ -18,8 +18,10 @@ const RECORD_LENGTH: u64 = 16;
 const WINDOW: u64 = 16_384;
 const LONGEST: u64 = 4_096;
 
-/// So many frames of interest has a journal.
+/// So many frames of interest has a journal, and so many where they are long
+/// or have much around them.
 const UNITS: usize = 64;
+const FEW: usize = 7;
 
 /// The command that fetches.
 const COMMAND: u64 = 2;
@@ -99,17 +101,23 @@ fn apart(group: Group, name: &str, size: u64, before: &[u8], unit: &[u8]) -> Cas
     }
 }
 
+/// A number of things, in words.
+fn counted(number: u64, thing: &str) -> String {
+    let ending = if number == 1 { "" } else { "s" };
+    format!("{number} {thing}{ending}")
+}
+
 /// A span that is held is fetched again.
 fn replayed(length: u64) -> Case {
     let span = fetch(0, length);
     let before = [begin(), span.clone()].concat();
-    let name = format!("replayed, {length} bytes");
+    let name = format!("replayed, {}", counted(length, "byte"));
     repeated(Group::Replayed, &name, length, &before, &span)
 }
 
 /// The first fetch of a command.
 fn fresh(length: u64) -> Case {
-    let name = format!("fresh, {length} bytes");
+    let name = format!("fresh, {}", counted(length, "byte"));
     apart(Group::Fresh, &name, length, &[], &fetch(0, length))
 }
 
@@ -124,9 +132,15 @@ fn spread(records: u64) -> Vec<u8> {
 
 /// A fetch of 4,096 bytes that joins records.
 fn overlap(records: u64) -> Case {
-    let name = format!("4,096 bytes over {records} records");
+    let name = format!("4096 bytes over {}", counted(records, "record"));
     let before = spread(records);
-    apart(Group::Overlap, &name, records, &before, &fetch(0, LONGEST))
+    let case = apart(Group::Overlap, &name, records, &before, &fetch(0, LONGEST));
+    Case {
+        units: FEW,
+        whole: case.whole[..case.whole.len() / UNITS * FEW].to_vec(),
+        base: case.base[..case.base.len() / UNITS * FEW].to_vec(),
+        ..case
+    }
 }
 
 /// A random journal with frames of every kind.
@@ -165,7 +179,6 @@ fn parts() -> Vec<Case> {
         logged: false,
         ..case
     };
-    let host_write = frame(3, 0, 0, LONGEST, &[7; LONGEST as usize]);
     vec![
         part(
             "fetch refused before the state is looked at",
@@ -185,20 +198,25 @@ fn parts() -> Vec<Case> {
             "replayed, 4096 bytes, no room for the log",
         ),
         silent(fresh(LONGEST), "fresh, 4096 bytes, no room for the log"),
-        few(
-            part("host write, 4096 bytes", &[], &host_write),
-            &host_write,
-        ),
+        behind(),
+        host_writes(),
     ]
 }
 
-/// The same with fewer frames, for long ones.
-fn few(case: Case, unit: &[u8]) -> Case {
-    const FEW: usize = 6;
+/// A fresh byte below all others that can be held, which move up by one.
+fn behind() -> Case {
+    let held = fetch(1, LONGEST - 1);
+    let name = "fresh, 1 byte below 4095 held ones";
+    apart(Group::Part, name, 0, &held, &fetch(0, 1))
+}
+
+/// Writes of the host, of which a journal has few, since they are long.
+fn host_writes() -> Case {
+    let write = frame(3, 0, 0, LONGEST, &[7; LONGEST as usize]);
     Case {
         units: FEW,
-        whole: unit.repeat(FEW),
-        ..case
+        whole: write.repeat(FEW),
+        ..repeated(Group::Part, "host write, 4096 bytes", 0, &[], &write)
     }
 }
 

@@ -40,7 +40,7 @@ pub fn picture(figures: &[Figures]) -> String {
             left: LEFT,
             marks: vec![1, 64, 512, 4_096],
             curves: [
-                curves(figures, Group::Replayed, "replayed", ""),
+                curves(figures, Group::Replayed, "replayed", "none"),
                 curves(figures, Group::Fresh, "fresh", "5 3"),
             ]
             .concat(),
@@ -49,7 +49,7 @@ pub fn picture(figures: &[Figures]) -> String {
             title: "of 4,096 bytes by the records overlapped",
             left: 2.0 * LEFT + WIDTH,
             marks: vec![1, 8, 64],
-            curves: curves(figures, Group::Overlap, "overlap", ""),
+            curves: curves(figures, Group::Overlap, "overlap", "none"),
         },
     ];
     let mut text = String::from(

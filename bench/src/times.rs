@@ -7,7 +7,7 @@ use crate::machine::{Machine, PROGRAMS};
 use crate::moved::work;
 
 /// So many times is each journal run.
-const ROUNDS: usize = 200;
+const ROUNDS: usize = 600;
 
 /// The nanoseconds of each program for one frame of interest, in the order of
 /// [`PROGRAMS`]. The programs take turns, so that all have the same weather.
