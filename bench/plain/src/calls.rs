@@ -95,25 +95,44 @@ pub fn fetch(
     if length == 0 {
         return Ok((0, 0));
     }
+    let fresh = fetch_span(
+        entry,
+        part(store, command),
+        window,
+        destination,
+        address,
+        length,
+    )?;
+    Ok((fresh, length - fresh))
+}
+
+/// Holds and delivers a span of a byte or more, and answers how many of its
+/// bytes are fresh.
+fn fetch_span(
+    entry: &mut Command,
+    part: &mut [u8],
+    window: &[u8],
+    destination: &mut [u8],
+    address: usize,
+    length: usize,
+) -> Result<usize, u8> {
     let meeting = Meeting::of(entry.records(), address, address + length);
+    let fresh = meeting.fresh();
+    let records = entry.count + 1 - (meeting.last - meeting.first);
     first([
         (
             23,
-            meeting.below + meeting.held + meeting.behind + meeting.fresh() > HELD,
+            meeting.below + meeting.held + meeting.behind + fresh > HELD,
         ),
-        (
-            24,
-            entry.count + 1 - (meeting.last - meeting.first) > RECORDS,
-        ),
+        (24, records > RECORDS),
     ])?;
-    let part = part(store, command);
-    if meeting.fresh() > 0 {
+    if fresh > 0 {
         meeting.fill(part, entry.records(), window);
     }
     meeting.splice(entry);
     let place = meeting.below + address - meeting.low;
     destination[..length].copy_from_slice(&part[place..place + length]);
-    Ok((meeting.fresh(), length - meeting.fresh()))
+    Ok(fresh)
 }
 
 /// How a span lies among records: it meets those from `first` up to `last`,
