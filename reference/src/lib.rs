@@ -9,9 +9,11 @@
 //! - [`cache`]: the six calls.
 //! - [`frames`]: the reader and the writer of step frames.
 //! - [`log`]: the log program, from input bytes to output text.
+//! - [`direct`]: a script of calls that no frame can ask for, and its lines.
 
 pub mod book;
 pub mod cache;
+pub mod direct;
 pub mod frames;
 mod held;
 pub mod limits;

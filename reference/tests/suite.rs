@@ -6,6 +6,7 @@ mod scene;
 
 mod any_book;
 mod broken_books;
+mod direct_calls;
 mod frames_both_ways;
 mod limits_of_calls;
 mod limits_of_frames;
