@@ -1,13 +1,17 @@
 -- Hexadecimal: one byte more, and the table, which has at each byte's places that byte's two characters.
-use Prim.Native.Nat.{ℕ, zero, suc, _+_, _*_, _/_, _%_, _<_}
+use Prim.Native.Nat.{ℕ, zero, suc, _+_, _*_, _/_, _%_, _≤_, _<_}
 use native.Mathlib.Omega.{arith}
+use native.Mathlib.Numerals.{add-one}
 use native.Mathlib.Nat.{add-zero, zero-add, suc-add, add-suc, le-of-suc-le-suc, not-suc-le-zero}
 use mathlib.Core.Path.{_≡_, refl, ap, sym, _∙_}
 use mathlib.Core.List.{List, [], _∷_, _++_}
-use lib.ListN.{length, take, drop, getD}
-use lib.Seq.{take-suc, drop-cons, drop-nil, getD-drop}
+use lib.ListN.{length, take, drop, getD, set}
+use lib.Seq.{take-suc, drop-cons, drop-nil, getD-drop, length-take-le, sets-eq}
+use Rattle.octets.specs.Lists.{overwrite}
+use Rattle.octets.proofs.Overwrite.{length-overwrite}
 use Rattle.state.specs.Records.{span}
 use Rattle.state.proofs.Places.{length-span}
+use Rattle.log.proofs.Putting.{behind}
 use Rattle.log.specs.Text.{hexDigit, hexPair, hexadecimal, hexTable, TablePairs}
 
 hex-append : (xs ys : List ℕ) → hexadecimal (xs ++ ys) ≡ hexadecimal xs ++ hexadecimal ys
@@ -55,3 +59,29 @@ module _ (byte : ℕ) (below : byte < 256) where
 
   pub table-low : getD hexTable (2 * byte + 1) 0 ≡ hexDigit (byte % 16)
   table-low = sym (getD-drop (2 * byte) hexTable 1 0) ∙ ap (λ (l : List ℕ). getD l 1 0) (table-from byte below)
+
+-- so the characters at a byte's two places are its pair
+pub table-pair : (table : List ℕ) (n byte : ℕ) → table ≡ hexTable → n ≡ byte → n < 256 → getD table (2 * n) 0 ∷ getD table (2 * n + 1) 0 ∷ [] ≡ hexPair byte
+table-pair table n byte e same below = rw (e, ← same, table-high n below, table-low n below)
+
+-- two characters for each byte
+pub length-hex : (bytes : List ℕ) → length (hexadecimal bytes) ≡ 2 * length bytes
+unfolding hexadecimal
+length-hex [] = refl
+length-hex (x ∷ xs) = omega (arith, length-hex xs)
+
+-- for a loop that has room for all of them: the two characters of one more are stored behind those before it
+pub pair-stored :
+    (out bytes : List ℕ) (i x y : ℕ) → i < length bytes → 2 * length bytes ≤ length out → x ∷ y ∷ [] ≡ hexPair (getD bytes i 0)
+    → set (set (overwrite out 0 (hexadecimal (take i bytes))) (2 * i) x) (2 * i + 1) y ≡ overwrite out 0 (hexadecimal (take (i + 1) bytes))
+pair-stored out bytes i x y inside room is =
+    let so-far = hexadecimal (take i bytes) in
+    let size : length so-far ≡ 2 * i = length-hex (take i bytes) ∙ ap (λ (n : ℕ). 2 * n) (length-take-le i bytes (omega arith)) in
+    let fits : 0 + length so-far ≤ length out = omega arith in
+    let place : 2 * i ≡ 0 + length so-far = omega arith in
+    ap (λ (n : ℕ). set (set (overwrite out 0 so-far) (2 * i) x) n y) (add-one (2 * i))
+    ∙ sets-eq (x ∷ y ∷ []) (overwrite out 0 so-far) (2 * i) (omega (arith, length-overwrite out so-far 0 fits))
+    ∙ ap (λ (l : List ℕ). overwrite (overwrite out 0 so-far) (2 * i) l) is
+    ∙ ap (λ (n : ℕ). overwrite (overwrite out 0 so-far) n (hexPair (getD bytes i 0))) place
+    ∙ behind out so-far (hexPair (getD bytes i 0)) 0 fits
+    ∙ ap (overwrite out 0) (sym (hex-more bytes i inside) ∙ ap (λ (n : ℕ). hexadecimal (take n bytes)) (sym (add-one i)))

@@ -14,7 +14,7 @@ use Rattle.log.specs.Text.{Puts}
 
 -- bytes written right behind others that fit are written with them
 module _ (buffer first second : List ℕ) (at : ℕ) (fits : at + length first ≤ length buffer) where
-  behind : overwrite (overwrite buffer at first) (at + length first) second ≡ overwrite buffer at (first ++ second)
+  pub behind : overwrite (overwrite buffer at first) (at + length first) second ≡ overwrite buffer at (first ++ second)
   behind =
       let front : length (take at buffer ++ first) ≡ at + length first = simp (length-append, length-take-le at buffer (omega arith)) in
       let reach : at + length first + length second ≡ at + length (first ++ second) = omega (arith, length-append first second) in

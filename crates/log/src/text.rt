@@ -5,7 +5,9 @@ use octets::lesser;
 use octets::minus;
 ghost use mathlib.Core.Path.{_≡_};
 ghost use mathlib.Core.List.{[], _∷_};
-ghost use Prim.Native.Nat.{_<_};
+ghost use Prim.Native.Nat.{_*_, _<_, _≤_};
+ghost use lib.ListN.{length};
+ghost use Rattle.octets.specs.Lists.{overwrite};
 ghost use Rattle.log.specs.Text.{digit, decimal, hexPair, hexadecimal, hexTable, Puts};
 
 // The most digits of a number of 64 bits.
@@ -64,11 +66,17 @@ fn digit(n: usize) -> u8
     b'0' + n as u8
 }
 
-// The table is laid out once, for all the bytes.
+// The table is laid out once, for all the bytes. Where there is room for all of them no place is tested.
 pub fn put_hex(out: &mut [u8], at: usize, bytes: &[u8]) -> usize
     ensures { λ r. ⌜ Puts (now (out .entry)) at (hexadecimal (now (bytes .entry))) r (now (out .exit)) ⌝ }
 {
     let table = hex_table();
+    if bytes.len() <= minus(out.len(), at) / 2 {
+        if at <= out.len() {
+            put_pairs(&mut out[at..], &table, bytes);
+            return at + 2 * bytes.len();
+        }
+    }
     let mut next = lesser(at, out.len());
     let mut i = 0;
     while i < bytes.len() {
@@ -84,6 +92,21 @@ fn hex_table() -> [u8; 512]
     HEX
 }
 
+// All the bytes, at the front of a buffer with room for them.
+fn put_pairs(out: &mut [u8], table: &[u8; 512], bytes: &[u8])
+    requires { ⌜ (now table ≡ hexTable) × (2 * length (now bytes) ≤ length (now out)) ⌝ }
+    ensures { λ _. ⌜ now (out .exit) ≡ overwrite (now (out .entry)) 0 (hexadecimal (now (bytes .entry))) ⌝ }
+{
+    let mut i = 0;
+    while i < bytes.len() {
+        let place = 2 * wide(bytes[i]);
+        out[2 * i] = table[place];
+        out[2 * i + 1] = table[place + 1];
+        i += 1;
+    }
+}
+
+// One byte, as far as there is room.
 fn put_pair(out: &mut [u8], at: usize, table: &[u8; 512], byte: u8) -> usize
     requires { ⌜ now table ≡ hexTable ⌝ }
     ensures { λ r. ⌜ Puts (now (out .entry)) at (hexPair byte) r (now (out .exit)) ⌝ }

@@ -1,14 +1,13 @@
 -- The characters at the two places of the byte are its pair, put one behind the other.
-use Prim.Native.Nat.{ℕ, _+_, _*_, _<_}
+use Prim.Native.Nat.{_*_}
 use native.Mathlib.Omega.{arith}
-use mathlib.Core.Path.{_≡_}
-use mathlib.Core.List.{List, [], _∷_}
+use mathlib.Core.List.{[], _∷_}
 use lib.ListN.{getD}
 use denote.Ref.{now}
 use borrow.Author.Needs.{needs}
-use Rattle.log.specs.Text.{hexPair, hexTable, Puts}
+use Rattle.log.specs.Text.{Puts}
 use Rattle.log.proofs.Putting.{puts-is, puts-both}
-use Rattle.log.proofs.Pairs.{table-high, table-low}
+use Rattle.log.proofs.Pairs.{table-pair}
 use Rattle.log.proofs.text.put_pair.Statement.{statement}
 use Rattle.log.proofs.text.put_pair.Tie as tie
 
@@ -36,10 +35,6 @@ put-byte-requires-2 c κs = search needs
 same-length : tie.Need-same-length
 same-length c = search needs
 
--- the characters at the two places
-pair : (table : List ℕ) (n byte : ℕ) → table ≡ hexTable → n ≡ byte → n < 256 → getD table (2 * n) 0 ∷ getD table (2 * n + 1) 0 ∷ [] ≡ hexPair byte
-pair table n byte e same below = rw (e, ← same, table-high n below, table-low n below)
-
 returns : tie.Need-returns
 returns c =
     let first = c .before .before .before .before .before .before .before in
@@ -48,7 +43,7 @@ returns c =
     let table = now (start .args .table) in
     let high : Puts (now (start .args .out)) (start .args .at) (getD table (2 * wide .result) 0 ∷ []) (first .put-byte .result) (first .put-byte .last .0) = first .put-byte .ensures in
     puts-is (puts-both high (c .before .before .put-byte2 .ensures))
-    (pair table (wide .result) (start .args .byte) (start .pre) (wide .ensures .0) (omega arith))
+    (table-pair table (wide .result) (start .args .byte) (start .pre) (wide .ensures .0) (omega arith))
 
 pub put-pair-spec : {M : Type 1} → statement M
 put-pair-spec =
