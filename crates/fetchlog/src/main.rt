@@ -1,4 +1,6 @@
 // Reads a journal of frames on standard input, and prints its log: a line for each frame, up to the first that is unreadable.
+// Given any argument it prints how it is used.
+use libc::STDERR_FILENO;
 use libc::STDIN_FILENO;
 use libc::STDOUT_FILENO;
 use state::CacheState;
@@ -43,7 +45,7 @@ fn print_log(input: &[u8]) {
     }
 }
 
-fn main() {
+fn run() {
     let mut input = [0u8; INPUT];
     let n = io::read_full(STDIN_FILENO, &mut input);
     if n > journal::MOST {
@@ -53,4 +55,18 @@ fn main() {
         return;
     }
     print_log(&input[..n]);
+}
+
+fn main() {
+    if os::arg_count() > 1 {
+        io::write_all(
+            STDERR_FILENO,
+            b"usage: fetchlog < FRAMES > LOG\n\
+            \n\
+            FRAMES are step frames one behind the other, at most 32768 bytes.\n\
+            LOG has a line for each, up to the first that cannot be read.\n",
+        );
+        return;
+    }
+    run();
 }

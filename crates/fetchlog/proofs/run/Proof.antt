@@ -4,8 +4,8 @@ use mathlib.Core.Path.{sym}
 use lib.Seq.{length-take-le}
 use Rattle.log.proofs.Putting.{puts-length}
 use borrow.Author.Needs.{needs}
-use Rattle.fetchlog.proofs.main.Statement.{statement}
-use Rattle.fetchlog.proofs.main.Tie as tie
+use Rattle.fetchlog.proofs.run.Statement.{statement}
+use Rattle.fetchlog.proofs.run.Tie as tie
 
 slice-aggregate-read-full : tie.Need-slice-aggregate-read-full
 slice-aggregate-read-full c = search needs
@@ -45,8 +45,8 @@ print-log-requires c κs = search needs
 returns-2 : tie.Need-returns-2
 returns-2 c = search needs
 
-pub main-spec : {M : Type 1} → statement M
-main-spec =
+pub run-spec : {M : Type 1} → statement M
+run-spec =
     tie.close
     (tie.spec
     slice-aggregate-read-full

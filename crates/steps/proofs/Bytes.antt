@@ -1,0 +1,38 @@
+-- The bytes of hexadecimal digits: how many there are, and which stands where.
+use Prim.Native.Nat.{ℕ, zero, suc, _+_, _*_, _/_, _<_}
+use native.Mathlib.Nat.{zero-add}
+use native.Mathlib.Numerals.{add-one}
+use native.Mathlib.Omega.{arith}
+use mathlib.Core.Path.{_≡_, refl, ap, sym, subst, _∙_}
+use mathlib.Core.List.{List, [], _∷_}
+use lib.ListN.{length, take, getD, set}
+use lib.Seq.{paste, paste-suc, take-nil}
+use Rattle.octets.specs.Lists.{overwrite}
+use Rattle.octets.proofs.Overwrite.{overwrite-none}
+use Rattle.steps.specs.Fields.{bytesOf, pairValue}
+
+pub bytes-length : (word : List ℕ) → length (bytesOf word) ≡ length word / 2
+unfolding bytesOf
+bytes-length [] = omega arith
+bytes-length (x ∷ []) = omega arith
+bytes-length (x ∷ y ∷ word) = omega (arith, bytes-length word)
+
+pub bytes-at : (word : List ℕ) (i : ℕ) → i < length word / 2 → getD (bytesOf word) i 0 ≡ pairValue (getD word (2 * i) 0) (getD word (2 * i + 1) 0)
+unfolding bytesOf
+bytes-at [] i h = absurd (omega arith)
+bytes-at (x ∷ []) i h = absurd (omega arith)
+bytes-at (x ∷ y ∷ word) zero h = refl
+bytes-at (x ∷ y ∷ word) (suc i) h =
+    let odd : 2 * suc i + 1 ≡ suc (suc (2 * i + 1)) = omega arith in
+    let even : 2 * suc i ≡ suc (suc (2 * i)) = omega arith in rw (odd, even) (bytes-at word i (omega arith))
+
+-- a turn's store makes it a copy of one byte more
+pub store : (buffer source : List ℕ) (i : ℕ) → i < length buffer → i < length source → set (paste buffer 0 source i) i (getD source i 0) ≡ paste buffer 0 source (i + 1)
+store buffer source i room more =
+    let room′ : 0 + i < length buffer = omega arith in
+    rw add-one
+    (subst (λ (k : ℕ). set (paste buffer 0 source i) k (getD source i 0) ≡ paste buffer 0 source (suc i)) (zero-add i) (paste-suc buffer 0 source i 0 room′ more))
+
+-- no bytes leave a buffer as it is
+pub nothing-put : (buffer : List ℕ) → buffer ≡ overwrite buffer 0 (take (length buffer) [])
+nothing-put buffer = sym (ap (overwrite buffer 0) (take-nil (length buffer)) ∙ overwrite-none buffer 0)

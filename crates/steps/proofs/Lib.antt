@@ -1,0 +1,7 @@
+pub mod Scanning
+pub mod Numbers
+pub mod Bytes
+pub mod Places
+pub mod Fits
+pub mod Claims
+pub mod Worked

@@ -1,0 +1,39 @@
+-- The laws of a scan, at a place of a list.
+use Prim.Native.Nat.{ℕ, suc, _≤_, _<_}
+use native.Mathlib.Omega.{arith}
+use mathlib.Core.Path.{_≡_}
+use mathlib.Core.List.{List, [], _∷_}
+use mathlib.Core.Bool.{Bool, true, false, cond}
+use lib.ListN.{length, drop, getD, length-drop}
+use lib.Seq.{drop-cons}
+use Rattle.steps.specs.declared.Stop.{Stop}
+use Rattle.steps.specs.Scan.{before, stops, place}
+
+module _ {A : Type 0} (test : A → Bool) where
+  -- it goes no farther than the end
+  pub before-most : (xs : List A) → before test xs ≤ length xs
+  unfolding before
+  before-most [] = omega arith
+  before-most (x ∷ xs) = go (test x) (before-most xs)
+    where
+      go : (t : Bool) → before test xs ≤ length xs → cond t 0 (suc (before test xs)) ≤ suc (length xs)
+      go true most = omega arith
+      go false most = omega arith
+
+  module _ (xs : List A) (i : ℕ) where
+    -- an element that passes the test ends it
+    pub found : (d : A) → i < length xs → test (getD xs i d) ≡ true → before test (drop i xs) ≡ 0
+    unfolding before
+    found d inside e = rw (drop-cons xs i d inside, e)
+
+    -- and one that does not is passed
+    pub passed : (d : A) → i < length xs → test (getD xs i d) ≡ false → before test (drop i xs) ≡ suc (before test (drop (suc i) xs))
+    unfolding before
+    passed d inside e = rw (drop-cons xs i d inside, e)
+
+    pub behind : length xs ≤ i → before test (drop i xs) ≡ 0
+    behind past = omega (arith, before-most (drop i xs), length-drop i xs)
+
+-- so the place where it stops lies in the text
+pub place-most : (stop : Stop) (text : List ℕ) (at : ℕ) → at ≤ length text → place stop text at ≤ length text
+place-most stop text at inside = omega (arith, before-most (stops stop) (drop at text), length-drop at text)

@@ -1,0 +1,98 @@
+-- The loop's invariant: the first i bytes are those of the digits, and the others as they were. The measure is what is left of the count.
+use Prim.Native.Nat.{_-_, _≤_}
+use native.Mathlib.Omega.{arith}
+use mathlib.Core.Path.{_≡_, refl, sym, _∙_}
+use denote.Ref.{now}
+use lib.ListN.{length, length-set}
+use lib.Seq.{paste}
+use Rattle.octets.proofs.Overwrite.{overwrite-paste}
+use Rattle.steps.specs.Fields.{bytesOf}
+use Rattle.steps.proofs.Bytes.{bytes-length, bytes-at, store}
+use borrow.Author.Needs.{needs}
+use Rattle.steps.proofs.data.decode.Statement.{statement}
+use Rattle.steps.proofs.data.decode.Tie as tie
+
+abbrev Inv-loop : tie.InvT-loop
+Inv-loop word buffer₀ n i₀ buffer i = (i ≤ n) × (buffer ≡ paste buffer₀ 0 (bytesOf word) i) × (length buffer ≡ length buffer₀)
+
+abbrev μ-loop : tie.MeasureT-loop
+μ-loop word buffer₀ n i₀ buffer i = n - i
+
+lesser-requires : tie.Need-lesser-requires Inv-loop μ-loop
+lesser-requires c κs = search needs
+
+loop-holds : tie.Need-loop-holds Inv-loop μ-loop
+loop-holds c = (omega arith, refl, refl)
+
+mul-pair-value : tie.Need-mul-pair-value Inv-loop μ-loop
+mul-pair-value c = search needs
+
+shared-slice-read-pair-value : tie.Need-shared-slice-read-pair-value Inv-loop μ-loop
+shared-slice-read-pair-value c = search needs
+
+mul-pair-value-2 : tie.Need-mul-pair-value-2 Inv-loop μ-loop
+mul-pair-value-2 c = search needs
+
+add-pair-value : tie.Need-add-pair-value Inv-loop μ-loop
+add-pair-value c = search needs
+
+shared-slice-read-pair-value-2 : tie.Need-shared-slice-read-pair-value-2 Inv-loop μ-loop
+shared-slice-read-pair-value-2 c = search needs
+
+pair-value-requires : tie.Need-pair-value-requires Inv-loop μ-loop
+pair-value-requires c κs = search needs
+
+slice-write-buffer : tie.Need-slice-write-buffer Inv-loop μ-loop
+slice-write-buffer c = search needs
+
+add-i : tie.Need-add-i Inv-loop μ-loop
+add-i c = search needs
+
+loop-less : tie.Need-loop-less Inv-loop μ-loop
+loop-less c = search needs
+
+loop-again : tie.Need-loop-again Inv-loop μ-loop
+loop-again c =
+    let l = c .before .before .before .before in
+    let start = l .before .before .before .before in
+    let word = now (start .args .word) in
+    let buffer = now (start .args .buffer) in
+    let i = l .loop .i in
+    let byte = c .pair-value .ensures ∙ sym (bytes-at word i (omega arith)) in (
+      omega arith,
+      rw (l .loop .inv .1, byte) (store buffer (bytesOf word) i (omega arith) (omega (arith, bytes-length word))),
+      simp length-set (omega arith),
+    )
+
+same-length : tie.Need-same-length Inv-loop μ-loop
+same-length c = search needs
+
+returns : tie.Need-returns Inv-loop μ-loop
+returns c =
+    let l = c .before in
+    let start = l .before .before .before .before in
+    let word = now (start .args .word) in
+    let buffer = now (start .args .buffer) in
+    let all : l .loop .i ≡ l .before .lesser .result = omega arith in
+    rw (l .loop .inv .1, all, l .before .lesser .ensures, ← bytes-length word) (overwrite-paste buffer (bytesOf word) 0 (length buffer))
+
+pub decode-spec : {M : Type 1} → statement M
+decode-spec =
+    tie.close
+    (tie.spec
+    Inv-loop
+    μ-loop
+    lesser-requires
+    loop-holds
+    mul-pair-value
+    shared-slice-read-pair-value
+    mul-pair-value-2
+    add-pair-value
+    shared-slice-read-pair-value-2
+    pair-value-requires
+    slice-write-buffer
+    add-i
+    loop-less
+    loop-again
+    same-length
+    returns)

@@ -1,0 +1,84 @@
+-- The loop's invariant: with the digits that are left, the number so far becomes the number of the word. The measure is the digits left.
+use Prim.Native.Nat.{ℕ, suc, _-_, _*_, _+_, _≤_, min}
+use native.Mathlib.Numerals.{add-one}
+use native.Mathlib.Omega.{arith}
+use mathlib.Core.Path.{_≡_, refl, ap, _∙_}
+use lib.ListN.{length, drop, getD, drop-of-length-le}
+use lib.Seq.{drop-cons}
+use denote.Ref.{now}
+use Rattle.log.specs.Text.{readOn, valueOf}
+use Rattle.steps.specs.Fields.{most}
+use Rattle.steps.proofs.Numbers.{next-digit}
+use borrow.Author.Needs.{needs}
+use Rattle.steps.proofs.fields.value.Statement.{statement}
+use Rattle.steps.proofs.fields.value.Tie as tie
+
+abbrev Inv-loop : tie.InvT-loop
+Inv-loop word value₀ i₀ value i = (value ≤ most) × (i ≤ length word) × (min most (readOn value (drop i word)) ≡ min most (valueOf word))
+
+abbrev μ-loop : tie.MeasureT-loop
+μ-loop word value₀ i₀ value i = length word - i
+
+loop-holds : tie.Need-loop-holds Inv-loop μ-loop
+loop-holds c = (omega arith, omega arith, refl)
+
+mul-lesser : tie.Need-mul-lesser Inv-loop μ-loop
+mul-lesser c = search needs
+
+shared-slice-read-wide : tie.Need-shared-slice-read-wide Inv-loop μ-loop
+shared-slice-read-wide c = search needs
+
+wide-requires : tie.Need-wide-requires Inv-loop μ-loop
+wide-requires c κs = search needs
+
+minus-requires : tie.Need-minus-requires Inv-loop μ-loop
+minus-requires c κs = search needs
+
+add-lesser : tie.Need-add-lesser Inv-loop μ-loop
+add-lesser c = search needs
+
+lesser-requires : tie.Need-lesser-requires Inv-loop μ-loop
+lesser-requires c κs = search needs
+
+add-i : tie.Need-add-i Inv-loop μ-loop
+add-i c = search needs
+
+loop-less : tie.Need-loop-less Inv-loop μ-loop
+loop-less c = search needs
+
+loop-again : tie.Need-loop-again Inv-loop μ-loop
+loop-again c =
+    let l = c .before .before .before .before .before in
+    let word = now (l .before .before .args .word) in
+    let digit : c .before .minus .result ≡ getD word (l .loop .i) 0 - 48 = c .before .minus .ensures ∙ ap (λ (x : ℕ). x - 48) (c .before .before .wide .ensures .0) in
+    let value : c .lesser .result ≡ min most (l .loop .value * 10 + (getD word (l .loop .i) 0 - 48)) =
+    c .lesser .ensures ∙ ap (λ (x : ℕ). min most (l .loop .value * 10 + x)) digit in (
+      omega arith,
+      omega arith,
+      rw (add-one, value, next-digit (l .loop .value) (getD word (l .loop .i) 0) (drop (suc (l .loop .i)) word), ← drop-cons word (l .loop .i) 0 (omega arith)) (l .loop .inv .2),
+    )
+
+returns : tie.Need-returns Inv-loop μ-loop
+unfolding readOn
+returns c =
+    let l = c .before in
+    let word = now (l .before .before .args .word) in
+    let none = drop-of-length-le word {i = l .loop .i} (omega arith) in omega (arith, rw none at (l .loop .inv .2))
+
+pub value-spec : {M : Type 1} → statement M
+value-spec =
+    tie.close
+    (tie.spec
+    Inv-loop
+    μ-loop
+    loop-holds
+    mul-lesser
+    shared-slice-read-wide
+    wide-requires
+    minus-requires
+    add-lesser
+    lesser-requires
+    add-i
+    loop-less
+    loop-again
+    returns)

@@ -1,0 +1,19 @@
+-- Whether there is a fault decides.
+use Rattle.steps.specs.Line.{judged}
+use borrow.Author.Needs.{needs}
+use Rattle.steps.proofs.line.judged.Statement.{statement}
+use Rattle.steps.proofs.line.judged.Tie as tie
+
+is-sound-requires : tie.Need-is-sound-requires
+is-sound-requires c κs = search needs
+
+returns : tie.Need-returns
+unfolding judged
+returns c = rw (← c .before .is-sound .ensures, c .if1 .taken)
+
+returns-2 : tie.Need-returns-2
+unfolding judged
+returns-2 c = rw (← c .before .is-sound .ensures, c .if1 .left)
+
+pub judged-spec : {M : Type 1} → statement M
+judged-spec = tie.close (tie.spec is-sound-requires returns returns-2)

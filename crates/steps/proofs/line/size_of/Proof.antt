@@ -1,0 +1,19 @@
+-- The column of the table decides.
+use Rattle.steps.specs.Line.{sizeOf}
+use borrow.Author.Needs.{needs}
+use Rattle.steps.proofs.line.size_of.Statement.{statement}
+use Rattle.steps.proofs.line.size_of.Tie as tie
+
+has-data-requires : tie.Need-has-data-requires
+has-data-requires c κs = search needs
+
+returns : tie.Need-returns
+unfolding sizeOf
+returns c = cc
+
+returns-2 : tie.Need-returns-2
+unfolding sizeOf
+returns-2 c = cc
+
+pub size-of-spec : {M : Type 1} → statement M
+size-of-spec = tie.close (tie.spec has-data-requires returns returns-2)

@@ -1,0 +1,58 @@
+-- What the fields of a line say.
+use Prim.Native.Nat.{ℕ, _+_, _*_, _/_, _%_, min}
+use mathlib.Core.List.{List, [], _∷_}
+use mathlib.Core.Bool.{Bool, true, false, _&&_, cond}
+use lib.Dec.{ltb, eqb}
+use lib.ListN.{length, getD}
+use Rattle.log.specs.Text.{valueOf}
+use Rattle.steps.specs.declared.Stop.the-variants.{NotDecimal, NotHex}
+use Rattle.steps.specs.declared.Fault.{Fault}
+use Rattle.steps.specs.declared.Fault.the-variants.{Sound, FieldMissing, NotANumber, NotHexadecimal, OddDigits, FieldTooMany}
+use Rattle.steps.specs.declared.Field.{Field}
+use Rattle.steps.specs.Scan.{hexValue, place, wordStart, wordEnd, wordAt}
+
+-- a number above this counts as this one, which is above every limit of a step
+abbrev pub most : ℕ
+most = 1000000
+
+abbrev pub field : ℕ → ℕ → Fault → Field
+field value next fault = record { value = value; next = next; fault = fault }
+
+-- a word that is to be a number: digits alone, and one at least
+unfoldable pub numberOf : (word : List ℕ) (next : ℕ) → Field
+numberOf word next =
+    cond (eqb (length word) 0) (field 0 next FieldMissing)
+    (cond (ltb (place NotDecimal word 0) (length word)) (field 0 next NotANumber) (field (min most (valueOf word)) next Sound))
+
+-- the number that stands next, if one is wanted
+unfoldable pub numberField : (text : List ℕ) (at : ℕ) (wanted : Bool) → Field
+numberField text at true = numberOf (wordAt text at) (wordEnd text at)
+numberField text at false = field 0 at Sound
+
+-- the byte of two hexadecimal digits; what is no digit counts as 0
+abbrev pub pairValue : ℕ → ℕ → ℕ
+pairValue high low = hexValue high % 16 * 16 + hexValue low % 16
+
+-- the bytes of hexadecimal digits, two and two
+unfoldable pub bytesOf : List ℕ → List ℕ
+bytesOf [] = []
+bytesOf (high ∷ []) = []
+bytesOf (high ∷ low ∷ rest) = pairValue high low ∷ bytesOf rest
+
+-- a dash, which stands for no data
+abbrev pub isDash : List ℕ → Bool
+isDash word = eqb (length word) 1 && eqb (getD word 0 0) 45
+
+-- a word that is to be data: a dash, or an even number of hexadecimal digits
+unfoldable pub dataFault : List ℕ → Fault
+dataFault word =
+    cond (isDash word) Sound
+    (cond (ltb (place NotHex word 0) (length word)) NotHexadecimal (cond (eqb (length word % 2) 1) OddDigits Sound))
+
+-- the data that stand next: how many bytes they are, which is none where no word follows
+unfoldable pub dataField : (text : List ℕ) (at : ℕ) → Field
+dataField text at = field (length (wordAt text at) / 2) (wordEnd text at) (dataFault (wordAt text at))
+
+-- nothing more may follow
+unfoldable pub endFault : (text : List ℕ) (at : ℕ) → Fault
+endFault text at = cond (ltb (wordStart text at) (length text)) FieldTooMany Sound

@@ -1,0 +1,5 @@
+pub mod Scan
+pub mod Fields
+pub mod Line
+pub mod Frame
+pub mod Claims

@@ -1,0 +1,66 @@
+// Steps in readable form, one a line: what a line says, and the frame that it stands for.
+use state::Refusal;
+
+mod data;
+mod fields;
+mod frame;
+mod line;
+mod scan;
+
+pub use frame::frame_of;
+pub use line::parse;
+pub use scan::until;
+
+// Where a scan of a text stops: at a byte of this class.
+pub enum Stop {
+    LineEnd,
+    Comment,
+    // a byte that is no blank, with which a word begins
+    Word,
+    Blank,
+    NotDecimal,
+    NotHex,
+}
+
+// What is wrong with a field or a line.
+pub enum Fault {
+    Sound,
+    UnknownLetter,
+    FieldMissing,
+    NotANumber,
+    NotHexadecimal,
+    OddDigits,
+    FieldTooMany,
+}
+
+// A field: the number that it gives, the place behind it, and what is wrong with it.
+pub struct Field {
+    pub value: usize,
+    pub next: usize,
+    pub fault: Fault,
+}
+
+// The numbers of a step, and how many bytes of data are given with it.
+pub struct Step {
+    pub kind: usize,
+    pub command: usize,
+    pub address: usize,
+    pub size: usize,
+    pub given: usize,
+}
+
+pub enum Meaning {
+    // no more than blanks and a comment
+    Nothing,
+    Step(Step),
+    Bad(Fault),
+}
+
+// What became of a line.
+pub enum Framed {
+    Nothing,
+    // how many bytes the frame has
+    Frame(usize),
+    Bad(Fault),
+    Refused(Refusal),
+}

@@ -1,0 +1,136 @@
+// A whole line: its comment is left out, the first word is the letter of a kind, and the fields follow that the table gives the kind.
+use crate::Fault;
+use crate::Meaning;
+use crate::Step;
+use crate::Stop;
+use crate::fields::data_field;
+use crate::fields::end_fault;
+use crate::fields::number_field;
+use crate::scan::until;
+use frames::tables;
+ghost use mathlib.Core.Path.{_≡_};
+ghost use Prim.Native.Nat.{_≤_};
+ghost use lib.ListN.{length, take};
+ghost use Rattle.octets.specs.Lists.{overwrite};
+ghost use Rattle.steps.specs.Line.{kindFor, kindNamed, hasSize, sizeOf, isSound, firstFault, judged, fieldsMean, fieldsData, lineMeans, lineData};
+
+const KINDS: usize = 5;
+
+// The kind of a letter, and 5 if no kind has it.
+fn kind_for(letter: u8) -> usize
+    ensures { λ r. ⌜ r ≡ kindFor letter ⌝ }
+{
+    let mut kind = 0;
+    while kind < KINDS {
+        if tables::letter(kind) == letter {
+            return kind;
+        }
+        kind += 1;
+    }
+    kind
+}
+
+fn kind_named(word: &[u8]) -> usize
+    ensures { λ r. ⌜ r ≡ kindNamed (now (word .entry)) ⌝ }
+{
+    if word.len() != 1 {
+        return KINDS;
+    }
+    kind_for(word[0])
+}
+
+// Does a length stand in the line of a kind? That of the data does not.
+fn has_size(kind: usize) -> bool
+    ensures { λ r. ⌜ r ≡ hasSize kind ⌝ }
+{
+    if tables::span_zero(kind) {
+        return false;
+    }
+    !tables::has_data(kind)
+}
+
+fn size_of(kind: usize, size: usize, given: usize) -> usize
+    ensures { λ r. ⌜ r ≡ sizeOf kind size given ⌝ }
+{
+    if tables::has_data(kind) { given } else { size }
+}
+
+fn is_sound(fault: Fault) -> bool
+    ensures { λ r. ⌜ r ≡ isSound fault ⌝ }
+{
+    match fault {
+        Fault::Sound => true,
+        Fault::UnknownLetter => false,
+        Fault::FieldMissing => false,
+        Fault::NotANumber => false,
+        Fault::NotHexadecimal => false,
+        Fault::OddDigits => false,
+        Fault::FieldTooMany => false,
+    }
+}
+
+fn first_fault(one: Fault, other: Fault) -> Fault
+    ensures { λ r. ⌜ r ≡ firstFault one other ⌝ }
+{
+    if is_sound(one) { other } else { one }
+}
+
+fn judged(fault: Fault, step: Step) -> Meaning
+    ensures { λ r. ⌜ r ≡ judged fault step ⌝ }
+{
+    if is_sound(fault) {
+        return Meaning::Step(step);
+    }
+    Meaning::Bad(fault)
+}
+
+// The fields of a kind, from a place of the text on.
+fn fields(text: &[u8], at: usize, kind: usize, buffer: &mut [u8]) -> Meaning
+    requires { ⌜ at ≤ length (now text) ⌝ }
+    ensures meaning { λ r. ⌜ r ≡ fieldsMean (now (text .entry)) at kind ⌝ }
+    ensures bytes { λ _. ⌜ now (buffer .exit) ≡ overwrite (now (buffer .entry)) 0 (take (length (now (buffer .entry))) (fieldsData (now (text .entry)) at kind)) ⌝ }
+{
+    let command = number_field(text, at, !tables::command_zero(kind));
+    let address_at = command.next;
+    let address = number_field(text, address_at, !tables::span_zero(kind));
+    let size_at = address.next;
+    let size = number_field(text, size_at, has_size(kind));
+    let data_at = size.next;
+    let data = data_field(text, data_at, buffer);
+    let end = data.next;
+    let command_fault = command.fault;
+    let address_fault = address.fault;
+    let size_fault = size.fault;
+    let data_fault = data.fault;
+    let fault = first_fault(data_fault, end_fault(text, end));
+    let fault = first_fault(size_fault, fault);
+    let fault = first_fault(address_fault, fault);
+    let fault = first_fault(command_fault, fault);
+    let step = Step {
+        kind,
+        command: command.value,
+        address: address.value,
+        size: size_of(kind, size.value, data.value),
+        given: data.value,
+    };
+    judged(fault, step)
+}
+
+// What a line says. Its data are put to the front of the buffer.
+pub fn parse(line: &[u8], buffer: &mut [u8]) -> Meaning
+    ensures meaning { λ r. ⌜ r ≡ lineMeans (now (line .entry)) ⌝ }
+    ensures bytes { λ _. ⌜ now (buffer .exit) ≡ overwrite (now (buffer .entry)) 0 (take (length (now (buffer .entry))) (lineData (now (line .entry)))) ⌝ }
+{
+    let end = until(line, 0, Stop::Comment);
+    let text = &line[..end];
+    let from = until(text, 0, Stop::Word);
+    if text.len() <= from {
+        return Meaning::Nothing;
+    }
+    let to = until(text, from, Stop::Blank);
+    let kind = kind_named(&text[from..to]);
+    if KINDS <= kind {
+        return Meaning::Bad(Fault::UnknownLetter);
+    }
+    fields(text, to, kind, buffer)
+}
