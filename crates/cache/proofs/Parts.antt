@@ -1,4 +1,4 @@
--- From a command's part to the whole store, and from the store to the destination.
+-- From a command's part to the whole store.
 use Prim.Native.Nat.{ℕ, _+_, _-_, _≤_, _<_}
 use native.Mathlib.Omega.{arith}
 use mathlib.Core.Path.{_≡_, refl, ap, fun-ext, _∙_}

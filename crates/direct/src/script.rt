@@ -22,6 +22,18 @@ const PARTS: usize = 33;
 const STEPS: usize = 40;
 
 fn title(part: usize) {
+    if part < 9 {
+        title_of_refusals(part);
+    } else if part < 20 {
+        title_of_calls(part);
+    } else if part < 27 {
+        title_of_frames(part);
+    } else {
+        title_of_states(part);
+    }
+}
+
+fn title_of_refusals(part: usize) {
     match part {
         0 => print::title(b"begin"),
         1 => print::title(b"begin, several reasons at once"),
@@ -31,7 +43,12 @@ fn title(part: usize) {
         5 => print::title(b"fetch, address and length"),
         6 => print::title(b"fetch, windows"),
         7 => print::title(b"fetch, stores and destinations"),
-        8 => print::title(b"fetch, several reasons at once"),
+        _ => print::title(b"fetch, several reasons at once"),
+    }
+}
+
+fn title_of_calls(part: usize) {
+    match part {
         9 => print::title(b"held bytes"),
         10 => print::title(b"joined records"),
         11 => print::title(b"a shorter window"),
@@ -42,14 +59,24 @@ fn title(part: usize) {
         16 => print::title(b"own write"),
         17 => print::title(b"own write, several reasons at once"),
         18 => print::title(b"show"),
-        19 => print::title(b"show, several reasons at once"),
+        _ => print::title(b"show, several reasons at once"),
+    }
+}
+
+fn title_of_frames(part: usize) {
+    match part {
         20 => print::title(b"frames written, kinds and fields"),
         21 => print::title(b"frames written, lengths and data"),
         22 => print::title(b"frames written, command, output and address"),
         23 => print::title(b"frames written, several reasons at once"),
         24 => print::title(b"frames read, the first five bytes"),
         25 => print::title(b"frames read, lengths and data"),
-        26 => print::title(b"frames read, several reasons at once"),
+        _ => print::title(b"frames read, several reasons at once"),
+    }
+}
+
+fn title_of_states(part: usize) {
+    match part {
         27 => print::title(b"states, order of records"),
         28 => print::title(b"states, lengths and ends of records"),
         29 => print::title(b"states, sums of lengths"),

@@ -1,17 +1,14 @@
--- The head of a frame: its five bytes as one number, what is written behind it, and that fields and bytes undo each other.
+-- The head of a frame: its five bytes as one number, and that fields and bytes undo each other.
 use Prim.Native.Nat.{ℕ, zero, suc, _+_, _*_, _^_, _≤_, _<_}
 use native.Mathlib.Omega.{arith}
 use mathlib.Core.Path.{_≡_, refl, ap, sym, _∙_}
 use mathlib.Core.List.{List, [], _∷_, _++_}
 use mathlib.Core.Bool.{true}
 use lib.Dec.{ltb}
-use lib.ListN.{length, getD, take, drop, replicate, length-append}
-use lib.Seq.{drop-drop}
+use lib.ListN.{length, getD, take, replicate}
 use lib.Pow.{areBytes}
 use borrow.Author.Tests.{lt-ltb, ltb-true}
-use Rattle.octets.specs.Lists.{overwrite}
 use Rattle.octets.proofs.Lists.{both, and-left, and-right}
-use Rattle.octets.proofs.Overwrite.{overwrite-front, overwrite-rest}
 use Rattle.frames.specs.Bits.{bits, pack, unpack, fit}
 use Rattle.frames.specs.Layout.{fieldWidths, byteWidths, fieldsOf, headBytes}
 use Rattle.frames.proofs.Bits.{pack-below, unpack-pack, pack-unpack, unpack-fit}
@@ -25,19 +22,6 @@ bytes-number (a ∷ b ∷ []) h = absurd (omega arith)
 bytes-number (a ∷ b ∷ c ∷ []) h = absurd (omega arith)
 bytes-number (a ∷ b ∷ c ∷ d ∷ []) h = absurd (omega arith)
 bytes-number (a ∷ b ∷ c ∷ d ∷ e ∷ s) h = omega arith
-
--- what is written behind a head that was written to the front
-module _ (output head bytes : List ℕ) (n : ℕ) (size : length head ≡ n) where
-  past-both : n + length bytes ≡ 0 + length (head ++ bytes)
-  past-both = omega (arith, length-append head bytes)
-
-  rest : drop (n + length bytes) (overwrite output 0 head) ≡ drop (0 + length (head ++ bytes)) output
-  rest =
-      sym (drop-drop (length bytes) n (overwrite output 0 head)) ∙ ap (drop (length bytes)) (overwrite-rest output head n size)
-      ∙ drop-drop (length bytes) n output ∙ ap (λ (k : ℕ). drop k output) past-both
-
-  pub behind : overwrite (overwrite output 0 head) n bytes ≡ overwrite output 0 (head ++ bytes)
-  behind = rw (overwrite-front output head n size, rest)
 
 -- only the bytes of the head are looked at
 pack-take : (ws vs : List ℕ) → pack ws (take (length ws) vs) ≡ pack ws vs

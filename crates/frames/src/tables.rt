@@ -22,7 +22,7 @@ pub fn letter(kind: usize) -> u8
     if kind < KINDS { LETTER[kind] } else { 0 }
 }
 
-pub fn allowed(kind: usize) -> bool
+pub(crate) fn allowed(kind: usize) -> bool
     ensures { λ r. ⌜ r ≡ isKind kind ⌝ }
 {
     if kind < KINDS { ALLOWED[kind] } else { false }
@@ -53,7 +53,7 @@ pub fn has_data(kind: usize) -> bool
 }
 
 // How many bytes of data follow the head of a frame.
-pub fn data_size(kind: usize, size: usize) -> usize
+pub(crate) fn data_size(kind: usize, size: usize) -> usize
     ensures { λ r. ⌜ r ≡ dataSize kind size ⌝ }
 {
     if has_data(kind) { size } else { 0 }
@@ -67,7 +67,13 @@ fn not_zero(must: bool, n: usize) -> bool
 }
 
 // Is a field that must be zero, or a spare bit, not zero?
-pub fn zero_broken(kind: usize, command: usize, address: usize, size: usize, spare: usize) -> bool
+pub(crate) fn zero_broken(
+    kind: usize,
+    command: usize,
+    address: usize,
+    size: usize,
+    spare: usize,
+) -> bool
     ensures { λ r. ⌜ r ≡ zeroBroken kind command address size spare ⌝ }
 {
     if not_zero(command_zero(kind), command) {

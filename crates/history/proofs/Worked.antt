@@ -11,7 +11,7 @@ use lib.ListN.{replicate}
 use Rattle.octets.specs.Lists.{all}
 use Rattle.state.specs.Records.{held, span, addresses, total, place, countFresh, keep, lowest, highest, joined}
 use Rattle.state.specs.State.{ascending, commandHolds, holds}
-use Rattle.state.specs.Verdict.{refused, replied, verdict, accepted}
+use Rattle.state.specs.Verdict.{Reply, refused, replied, verdict, accepted}
 use Rattle.cache.specs.Begin.{beginSays, beginState, beginStore}
 use Rattle.cache.specs.Fetch.{fetchSays, fetchState, fetchStore, fetchDest}
 use Rattle.cache.specs.End.{endSays, endState, endStore}
@@ -24,21 +24,32 @@ use Rattle.history.specs.Claims.{begins, mayChange, common}
 abbrev dest : List ℕ
 dest = 0 ∷ 0 ∷ 0 ∷ []
 
--- the calls, with the windows as the host left them
-calls : List Call
-calls =
-    begin 1 ∷ begin 2 ∷ fetch 1 0 2 dest (4 ∷ 5 ∷ 6 ∷ []) ∷ fetch 2 0 1 dest (40 ∷ 50 ∷ 60 ∷ []) ∷ fetch 1 0 3 dest (40 ∷ 50 ∷ 60 ∷ [])
-    ∷ fetch 1 2 2 dest (7 ∷ 8 ∷ 9 ∷ []) ∷ fetch 1 0 3 dest (7 ∷ 8 ∷ []) ∷ begin 1 ∷ end 1 ∷ begin 1 ∷ fetch 1 0 1 dest (7 ∷ 8 ∷ 9 ∷ []) ∷ end 1 ∷ []
+abbrev _gives_ : Call → Reply → Event
+call gives answer = record { call = call; answer = answer }
 
+infix 70 _gives_
+-- the calls, with the windows as the host left them, and what each is answered
 run : List Event
-unfolding calls along beginSays beginState beginStore fetchSays fetchState fetchStore endSays endState endStore verdict accepted all ascending commandHolds holds total held span countFresh keep lowest highest joined addresses place
-run = journal (replicate 32768 3) calls
+run =
+    (begin 1 gives replied [])
+    ∷ (begin 2 gives replied [])
+    ∷ (fetch 1 0 2 dest (4 ∷ 5 ∷ 6 ∷ []) gives replied (2 ∷ 0 ∷ []))
+    ∷ (fetch 2 0 1 dest (40 ∷ 50 ∷ 60 ∷ []) gives replied (1 ∷ 0 ∷ []))
+    ∷ (fetch 1 0 3 dest (40 ∷ 50 ∷ 60 ∷ []) gives replied (1 ∷ 2 ∷ []))
+    ∷ (fetch 1 2 2 dest (7 ∷ 8 ∷ 9 ∷ []) gives refused 9)
+    ∷ (fetch 1 0 3 dest (7 ∷ 8 ∷ []) gives refused 9)
+    ∷ (begin 1 gives refused 22)
+    ∷ (end 1 gives replied (1 ∷ 3 ∷ []))
+    ∷ (begin 1 gives replied [])
+    ∷ (fetch 1 0 1 dest (7 ∷ 8 ∷ 9 ∷ []) gives replied (1 ∷ 0 ∷ []))
+    ∷ (end 1 gives replied (1 ∷ 1 ∷ [])) ∷ []
 
-answers : map (λ e. e .answer) run
-    ≡ replied [] ∷ replied [] ∷ replied (2 ∷ 0 ∷ []) ∷ replied (1 ∷ 0 ∷ []) ∷ replied (1 ∷ 2 ∷ [])
-    ∷ refused 9 ∷ refused 9 ∷ refused 22 ∷ replied (1 ∷ 3 ∷ []) ∷ replied [] ∷ replied (1 ∷ 0 ∷ []) ∷ replied (1 ∷ 1 ∷ []) ∷ []
-unfolding run
-answers = refl
+calls : List Call
+calls = map (λ e. e .call) run
+
+is-run : journal (replicate 32768 3) calls ≡ run
+unfolding run calls along beginSays beginState beginStore fetchSays fetchState fetchStore endSays endState endStore verdict accepted all ascending commandHolds holds total held span countFresh keep lowest highest joined addresses place
+is-run = refl
 
 abbrev _↦↦_ : ℕ → ℕ → First
 x ↦↦ v = record { address = x; value = v }
@@ -46,31 +57,31 @@ x ↦↦ v = record { address = x; value = v }
 infix 80 _↦↦_
 first-fetches : told firsts [] run
     ≡ [] ∷ [] ∷ (0 ↦↦ 4 ∷ 1 ↦↦ 5 ∷ []) ∷ (0 ↦↦ 40 ∷ []) ∷ (2 ↦↦ 60 ∷ []) ∷ [] ∷ [] ∷ [] ∷ [] ∷ [] ∷ (0 ↦↦ 7 ∷ []) ∷ [] ∷ []
-unfolding run told remember memory firstsAmong firstsBy
+unfolding run told remember memory firstsAmong firstsBy accepted span
 first-fetches = refl
 
 bytes-owed : told owed [] run
     ≡ [] ∷ [] ∷ (4 ∷ 5 ∷ []) ∷ (40 ∷ []) ∷ (4 ∷ 5 ∷ 60 ∷ []) ∷ [] ∷ [] ∷ [] ∷ [] ∷ [] ∷ (7 ∷ []) ∷ [] ∷ []
-unfolding run told remember memory owedBy
+unfolding run told remember memory owedBy accepted span
 bytes-owed = refl
 
 bytes-delivered : along delivers (start (replicate 32768 3)) calls
     ≡ [] ∷ [] ∷ (4 ∷ 5 ∷ []) ∷ (40 ∷ []) ∷ (4 ∷ 5 ∷ 60 ∷ []) ∷ [] ∷ [] ∷ [] ∷ [] ∷ [] ∷ (7 ∷ []) ∷ [] ∷ []
-unfolding run fetchDest
+unfolding run calls is-run fetchDest
 bytes-delivered = refl
 
 counts-owed : told countsOwed [] run
     ≡ [] ∷ [] ∷ (2 ∷ 0 ∷ []) ∷ (1 ∷ 0 ∷ []) ∷ (1 ∷ 2 ∷ []) ∷ [] ∷ [] ∷ [] ∷ [] ∷ [] ∷ (1 ∷ 0 ∷ []) ∷ [] ∷ []
-unfolding run told remember memory firstsAmong countsBy
+unfolding run told remember memory firstsAmong countsBy accepted span
 counts-owed = refl
 
 sums-owed : told sumOwed [] run ≡ [] ∷ [] ∷ [] ∷ [] ∷ [] ∷ [] ∷ [] ∷ [] ∷ (3 ∷ []) ∷ [] ∷ [] ∷ (1 ∷ []) ∷ []
-unfolding run told add freshSince
+unfolding run told add freshSince accepted
 sums-owed = refl
 
 -- command 1 begins anew in this run
 begins-anew : all (λ e. not (begins 1 (deed e))) run ≡ false
-unfolding run
+unfolding run all accepted
 begins-anew = refl
 
 -- a fetch names its command

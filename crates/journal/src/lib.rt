@@ -15,5 +15,3 @@ pub use line::Logged;
 pub use line::log_frame;
 pub use run::Replayed;
 pub use run::replay;
-pub use step::Made;
-pub use step::make;

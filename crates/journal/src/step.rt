@@ -18,7 +18,7 @@ use log::Answer;
 use state::CacheState;
 
 // The answer, how many bytes were delivered to the front of the destination, and the state after the call.
-pub struct Made {
+pub(crate) struct Made {
     pub answer: Answer,
     pub delivered: usize,
     pub state: CacheState,
@@ -128,7 +128,7 @@ fn wrote(state: CacheState, answer: WriteAnswer) -> Made
     }
 }
 
-pub fn make(
+pub(crate) fn make(
     step: Step,
     bytes: &[u8],
     state: CacheState,

@@ -8,13 +8,12 @@ use mathlib.Core.List.{List, [], _∷_, _++_}
 use lib.ListN.{length, take, drop, getD, set}
 use lib.Seq.{take-suc, drop-cons, drop-nil, getD-drop, length-take-le, sets-eq}
 use Rattle.octets.specs.Lists.{overwrite}
-use Rattle.octets.proofs.Overwrite.{length-overwrite}
+use Rattle.octets.proofs.Overwrite.{overwrite-then, length-overwrite}
 use Rattle.state.specs.Records.{span}
 use Rattle.state.proofs.Places.{length-span}
-use Rattle.log.proofs.Putting.{behind}
 use Rattle.log.specs.Text.{hexDigit, hexPair, hexadecimal, hexTable, TablePairs}
 
-hex-append : (xs ys : List ℕ) → hexadecimal (xs ++ ys) ≡ hexadecimal xs ++ hexadecimal ys
+pub hex-append : (xs ys : List ℕ) → hexadecimal (xs ++ ys) ≡ hexadecimal xs ++ hexadecimal ys
 unfolding hexadecimal
 hex-append [] ys = refl
 hex-append (x ∷ xs) ys = ap (λ (l : List ℕ). hexPair x ++ l) (hex-append xs ys)
@@ -83,5 +82,5 @@ pair-stored out bytes i x y inside room is =
     ∙ sets-eq (x ∷ y ∷ []) (overwrite out 0 so-far) (2 * i) (omega (arith, length-overwrite out so-far 0 fits))
     ∙ ap (λ (l : List ℕ). overwrite (overwrite out 0 so-far) (2 * i) l) is
     ∙ ap (λ (n : ℕ). overwrite (overwrite out 0 so-far) n (hexPair (getD bytes i 0))) place
-    ∙ behind out so-far (hexPair (getD bytes i 0)) 0 fits
+    ∙ overwrite-then out so-far (hexPair (getD bytes i 0)) 0 (omega arith)
     ∙ ap (overwrite out 0) (sym (hex-more bytes i inside) ∙ ap (λ (n : ℕ). hexadecimal (take n bytes)) (sym (add-one i)))

@@ -2,28 +2,15 @@
 use Prim.Native.Nat.{ℕ, _+_, _-_, _≤_, _<_, min}
 use native.Mathlib.Omega.{arith}
 use mathlib.Core.Path.{_≡_, refl, ap, subst, sym, _∙_}
-use mathlib.Core.List.{List, [], _∷_, _++_, append-assoc}
+use mathlib.Core.List.{List, [], _∷_, _++_}
 use mathlib.Core.Bool.{Bool, true, false}
 use lib.Dec.{leb}
-use lib.ListN.{length, take, drop, set, length-append, length-take}
-use lib.Seq.{sets-eq, take-nil, take-all, take-at, take-append-le, take-append-add, length-take-le, drop-drop}
+use lib.ListN.{length, take, set, length-append, length-take}
+use lib.Seq.{sets-eq, take-nil, take-all, take-append-le, take-append-add}
 use borrow.Author.Tests.{leb-true, leb-false}
 use Rattle.octets.specs.Lists.{overwrite}
-use Rattle.octets.proofs.Overwrite.{overwrite-none, overwrite-behind, length-overwrite}
+use Rattle.octets.proofs.Overwrite.{overwrite-none, overwrite-then, length-overwrite}
 use Rattle.log.specs.Text.{Puts}
-
--- bytes written right behind others that fit are written with them
-module _ (buffer first second : List ℕ) (at : ℕ) (fits : at + length first ≤ length buffer) where
-  pub behind : overwrite (overwrite buffer at first) (at + length first) second ≡ overwrite buffer at (first ++ second)
-  behind =
-      let front : length (take at buffer ++ first) ≡ at + length first = simp (length-append, length-take-le at buffer (omega arith)) in
-      let reach : at + length first + length second ≡ at + length (first ++ second) = omega (arith, length-append first second) in
-      let rest : drop (at + length first + length second) (overwrite buffer at first) ≡ drop (at + length (first ++ second)) buffer =
-      sym (drop-drop (length second) (at + length first) (overwrite buffer at first))
-      ∙ ap (drop (length second)) (overwrite-behind buffer first at fits)
-      ∙ drop-drop (length second) (at + length first) buffer
-      ∙ ap (λ (k : ℕ). drop k buffer) reach in
-      rw (take-at (take at buffer ++ first) (drop (at + length first) buffer) (at + length first) front, rest, append-assoc (take at buffer) first second)
 
 -- as much as there is room for keeps the length, whatever the place
 kept : (buffer text : List ℕ) (at : ℕ) → length (overwrite buffer at (take (length buffer - at) text)) ≡ length buffer
@@ -44,6 +31,14 @@ module _ {out out′ text : List ℕ} {at r : ℕ} (p : Puts out at text r out�
 
   pub puts-is : {other : List ℕ} → text ≡ other → Puts out at other r out′
   puts-is e = subst (λ (t : List ℕ). Puts out at t r out′) e p
+
+  -- what stands behind text that fills the buffer is not put
+  pub puts-cut : (rest : List ℕ) → length out ≤ at + length text → Puts out at (text ++ rest) r out′
+  puts-cut rest full =
+      record {
+        bytes = p .bytes ∙ ap (overwrite out at) (sym (take-append-le (length out - at) text rest (omega arith)));
+        next = omega (arith, length-append text rest, p .next);
+      }
 
 -- no text, any text at a place past the end, and one byte
 module _ (out : List ℕ) (at : ℕ) where
@@ -76,7 +71,7 @@ module _ {out out′ out″ p q : List ℕ} {at k k′ : ℕ} (first : Puts out 
           second .bytes
           ∙ ap (λ (o : List ℕ). overwrite o k (take (length out′ - k) q)) (first .bytes ∙ ap (overwrite out at) whole)
           ∙ ap (λ (j : ℕ). overwrite (overwrite out at p) j (take (length out′ - k) q)) place
-          ∙ behind out p (take (length out′ - k) q) at fits
+          ∙ overwrite-then out p (take (length out′ - k) q) at (omega arith)
           ∙ ap (overwrite out at) (sym (ap (λ (j : ℕ). take j (p ++ q)) room ∙ take-append-add p q (length out′ - k)))
       go false h =
           let past = leb-false (at + length p) (length out) h in

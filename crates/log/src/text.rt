@@ -66,22 +66,19 @@ fn digit(n: usize) -> u8
     b'0' + n as u8
 }
 
-// The table is laid out once, for all the bytes. Where there is room for all of them no place is tested.
+// The bytes for which there is room in pairs are put with no test of a place, and then what fits of the next one.
 pub fn put_hex(out: &mut [u8], at: usize, bytes: &[u8]) -> usize
     ensures { λ r. ⌜ Puts (now (out .entry)) at (hexadecimal (now (bytes .entry))) r (now (out .exit)) ⌝ }
 {
-    let table = hex_table();
-    if bytes.len() <= minus(out.len(), at) / 2 {
-        if at <= out.len() {
-            put_pairs(&mut out[at..], &table, bytes);
-            return at + 2 * bytes.len();
-        }
+    if out.len() <= at {
+        return out.len();
     }
-    let mut next = lesser(at, out.len());
-    let mut i = 0;
-    while i < bytes.len() {
-        next = put_pair(out, next, &table, bytes[i]);
-        i += 1;
+    let table = hex_table();
+    let whole = lesser(bytes.len(), (out.len() - at) / 2);
+    put_pairs(&mut out[at..], &table, &bytes[..whole]);
+    let next = at + 2 * whole;
+    if whole < bytes.len() {
+        return put_pair(out, next, &table, bytes[whole]);
     }
     next
 }
@@ -100,8 +97,10 @@ fn put_pairs(out: &mut [u8], table: &[u8; 512], bytes: &[u8])
     let mut i = 0;
     while i < bytes.len() {
         let place = 2 * wide(bytes[i]);
-        out[2 * i] = table[place];
-        out[2 * i + 1] = table[place + 1];
+        let high = table[place];
+        let low = table[place + 1];
+        out[2 * i] = high;
+        out[2 * i + 1] = low;
         i += 1;
     }
 }

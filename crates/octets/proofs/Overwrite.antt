@@ -2,10 +2,11 @@
 use Prim.Native.Nat.{ℕ, suc, _+_, _-_, _≤_, _<_, min}
 use native.Mathlib.Omega.{arith}
 use native.Mathlib.Nat.{zero-add, add-zero}
+use native.Mathlib.Numerals.{add-one}
 use mathlib.Core.Path.{_≡_, ap, ap₂, subst, sym, _∙_}
 use mathlib.Core.List.{List, [], _∷_, _++_, append-nil, append-assoc}
 use lib.ListN.{length, take, drop, getD, set, length-append, length-take, length-drop, take-append-drop, List·getD-append}
-use lib.Seq.{length-take-le, take-at, drop-at, take-add, take-suc, drop-drop, drop-append-le, set-at, paste, getD-take, getD-drop, ext-getD}
+use lib.Seq.{length-take-le, take-at, drop-at, take-add, take-suc, drop-drop, drop-append-le, set-at, paste, paste-suc, getD-take, getD-drop, ext-getD}
 use Rattle.octets.specs.Lists.{overwrite, part}
 use Rattle.octets.proofs.Lists.{getD-past, take-min}
 
@@ -16,6 +17,25 @@ overwrite-same buffer at n fits =
 
 pub overwrite-none : (buffer : List ℕ) (at : ℕ) → overwrite buffer at [] ≡ buffer
 overwrite-none buffer at = rw (append-nil, add-zero) (take-append-drop at buffer)
+
+-- bytes written right behind others are written with them
+pub overwrite-then : (buffer first second : List ℕ) (at : ℕ) → at ≤ length buffer → overwrite (overwrite buffer at first) (at + length first) second ≡ overwrite buffer at (first ++ second)
+overwrite-then buffer first second at inside =
+    let front : length (take at buffer ++ first) ≡ at + length first = simp (length-append, length-take-le at buffer inside) in
+    let reach : at + length first + length second ≡ at + length (first ++ second) = omega (arith, length-append first second) in
+    let rest : drop (at + length first + length second) (overwrite buffer at first) ≡ drop (at + length (first ++ second)) buffer =
+    sym (drop-drop (length second) (at + length first) (overwrite buffer at first))
+    ∙ ap (drop (length second)) (drop-at (take at buffer ++ first) (drop (at + length first) buffer) (at + length first) front)
+    ∙ drop-drop (length second) (at + length first) buffer
+    ∙ ap (λ (k : ℕ). drop k buffer) reach in
+    rw (take-at (take at buffer ++ first) (drop (at + length first) buffer) (at + length first) front, rest, append-assoc (take at buffer) first second)
+
+-- in a loop, a turn's store makes it a copy of one element more
+pub paste-more : {A : Type 0} (buffer source : List A) (i : ℕ) (d : A) → i < length buffer → i < length source → set (paste buffer 0 source i) i (getD source i d) ≡ paste buffer 0 source (i + 1)
+paste-more buffer source i d room more =
+    let room′ : 0 + i < length buffer = omega arith in
+    rw add-one
+    (subst (λ (k : ℕ). set (paste buffer 0 source i) k (getD source i d) ≡ paste buffer 0 source (suc i)) (zero-add i) (paste-suc buffer 0 source i d room′ more))
 
 module _ (buffer bytes : List ℕ) (at : ℕ) (fits : at + length bytes ≤ length buffer) where
   front : length (take at buffer) ≡ at

@@ -4,11 +4,11 @@ use native.Mathlib.Omega.{arith}
 use mathlib.Core.Path.{_≡_, refl, sym, ap, ap₂, _∙_}
 use mathlib.Core.Logic.{_≢_}
 use mathlib.Core.List.{List, [], _∷_, _++_}
-use mathlib.Core.Bool.{Bool, true, false, false≢true, _&&_, _||_, and-false}
+use mathlib.Core.Bool.{Bool, true, false, false≢true, _&&_, _||_, and-true, and-false, or-true}
 use lib.Dec.{ltb, leb, eqb}
 use lib.ListN.{length, drop, replicate, length-set, length-append, length-replicate, length-drop, take-append-drop, List·getD-eq-default}
 use lib.Seq.{getD-set-same, getD-set-other, take-append-seam, drop-append-seam, length-take-le, set-getD}
-use borrow.Author.Tests.{ltb-true, ltb-false, leb-true, le-leb, lt-leb, eqb-true, eq-eqb}
+use borrow.Author.Tests.{ltb-true, ltb-false, leb-true, le-leb, lt-leb, eqb-true, eq-eqb, ne-eqb}
 use Rattle.octets.specs.Lists.{all}
 use Rattle.octets.proofs.Lists.{both, and-left, and-right, all-at, all-set, all-replicate}
 use Rattle.state.specs.declared.Record.{Record}
@@ -143,27 +143,38 @@ open-with-own s c shape whole opened =
     let front : length (recordsIn p) ≡ p .count = length-take-le (p .count) (p .records) (omega arith) in
     λ i. record { opened = sym opened i; count = front i; records = sym (open-with-padded p K size) i }
 
--- A command told check by check: what fails first, or that the last test decides.
+-- A command told check by check: what fails first, or that the unused entries decide.
 
 module _ (p : CommandState) where
+  -- the rules of its records
+  abbrev recordsHold : Bool
+  recordsHold = ascending 0 (recordsIn p) && leb (total (recordsIn p)) heldLimit
+
+  pub no-records : p .count ≡ 0 → commandHolds p ≡ all isZero (drop (p .count) (p .records))
+  unfolding commandHolds ascending total
+  no-records none = rw (none, or-true, and-true)
+
+  pub closed-with-records : p .opened ≡ false → p .count ≢ 0 → commandHolds p ≡ false
+  unfolding commandHolds
+  closed-with-records shut some = rw (shut, ne-eqb (p .count) 0 some, and-false)
+
   pub too-many : recordLimit < p .count → commandHolds p ≡ false
   unfolding commandHolds
   too-many h = rw (lt-leb (p .count) recordLimit h)
 
-  pub not-ascending : ascending 0 (recordsIn p) ≡ false → commandHolds p ≡ false
+  pub records-fail : recordsHold ≡ false → commandHolds p ≡ false
   unfolding commandHolds
-  not-ascending h = rw (h, and-false)
+  records-fail h = go (leb (p .count) recordLimit) (ascending 0 (recordsIn p)) (leb (total (recordsIn p)) heldLimit) h
+    where
+      go : (few up small : Bool) → (up && small) ≡ false → (few && up && small && all isZero (drop (p .count) (p .records)) && (p .opened || eqb (p .count) 0)) ≡ false
+      go false up small h = refl
+      go true false small h = refl
+      go true true false h = refl
+      go true true true h = absurd (false≢true (sym h))
 
-  pub too-large : heldLimit < total (recordsIn p) → commandHolds p ≡ false
+  pub unused-decide : p .opened ≡ true → p .count ≤ recordLimit → recordsHold ≡ true → commandHolds p ≡ all isZero (drop (p .count) (p .records))
   unfolding commandHolds
-  too-large h = rw (lt-leb (total (recordsIn p)) heldLimit h, and-false)
-
-  pub not-zero : all isZero (drop (p .count) (p .records)) ≡ false → commandHolds p ≡ false
-  unfolding commandHolds
-  not-zero h = rw (h, and-false)
-
-  pub all-but-open :
-      p .count ≤ recordLimit → ascending 0 (recordsIn p) ≡ true → total (recordsIn p) ≤ heldLimit → all isZero (drop (p .count) (p .records)) ≡ true
-      → commandHolds p ≡ (p .opened || eqb (p .count) 0)
-  unfolding commandHolds
-  all-but-open few up small unused = rw (le-leb (p .count) recordLimit few, up, le-leb (total (recordsIn p)) heldLimit small, unused)
+  unused-decide opened few h =
+      let up = and-left (ascending 0 (recordsIn p)) (leb (total (recordsIn p)) heldLimit) h in
+      let small = and-right (ascending 0 (recordsIn p)) (leb (total (recordsIn p)) heldLimit) h in
+      rw (le-leb (p .count) recordLimit few, up, small, opened, and-true)

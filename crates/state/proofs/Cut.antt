@@ -43,11 +43,6 @@ held-next : (r : Record) (rs : List Record) (x : ℕ) → inSpan (r .start) (r .
 unfolding held
 held-next r rs x h = rw h
 
-held-front : (rs ts : List Record) (x : ℕ) → held ts x ≡ false → held (rs ++ ts) x ≡ held rs x
-unfolding held
-held-front [] ts x h = h
-held-front (r ∷ rs) ts x h = ap (λ (b : Bool). inSpan (r .start) (r .len) x || b) (held-front rs ts x h)
-
 held-middle : (rs : List Record) (r : Record) (ts : List Record) (x : ℕ) → inSpan (r .start) (r .len) x ≡ true → held (rs ++ r ∷ ts) x ≡ true
 unfolding held
 held-middle [] r ts x h = rw h

@@ -3,9 +3,9 @@ use Prim.Native.Nat.{ℕ, zero, suc, _+_, _-_, _%_, _≤_, _<_, min}
 use native.Mathlib.Omega.{arith}
 use mathlib.Core.Path.{_≡_, refl, ap, sym, _∙_}
 use mathlib.Core.List.{List, [], _∷_, _++_}
-use mathlib.Core.Bool.{Bool, true, false}
+use mathlib.Core.Bool.{Bool, true, false, cond}
 use lib.Dec.{ltb, eqb}
-use lib.ListN.{length, take, drop, getD, replicate, length-append, length-drop, take-append-drop, List·getD-append}
+use lib.ListN.{length, take, drop, getD, replicate, length-append, length-take, length-drop, take-append-drop, List·getD-append, List·getD-eq-default}
 use lib.Seq.{length-take-le, getD-take, getD-drop, ext-getD}
 use borrow.Author.Tests.{ltb-true, ltb-false, eqb-true, eqb-false}
 use Rattle.octets.proofs.Lists.{getD-past}
@@ -15,13 +15,13 @@ use Rattle.state.specs.declared.join.Meeting.{Meeting}
 use Rattle.state.specs.Limits.{recordLimit, windowLimit}
 use Rattle.state.specs.Records.{total, place, fresh, joined}
 use Rattle.state.specs.State.{noRecord, open-with, recordsIn, ascending}
-use Rattle.state.specs.Join.{unionOf, entryAfter, meeting, spliced, Room}
+use Rattle.state.specs.Join.{unionOf, entryAfter, changedUpTo, meeting, spliced, Room}
 use Rattle.state.proofs.Commands.{kept-command, open-with-padded, length-open-with}
 use Rattle.state.proofs.Merge.{between}
 use Rattle.state.proofs.Laws.{ascending-joined, total-append}
 use Rattle.state.proofs.Places.{place-middle}
 use Rattle.state.proofs.Search.{entry-before, entry-union, entry-behind}
-use Rattle.state.proofs.Splice.{wanted, wanted-size, wanted-at, is-spliced}
+use Rattle.state.proofs.Splice.{changed-within, wanted, written, wanted-size, wanted-at, back-written, is-spliced}
 use Rattle.state.proofs.Found.{Found, found}
 
 -- entries that only pad a list are the default
@@ -85,14 +85,12 @@ module _ (p : CommandState) (a n : ℕ) (R : Room p a (suc n)) (size : length (p
   abbrev rs′ : List Record
   rs′ = take (m .first) rs ++ between (m .low) (m .high) ∷ drop (m .last) rs
 
+  own : (i : ℕ) → getD (p .records) i noRecord ≡ getD rs i noRecord
+  own i = ap (λ (l : List Record). getD l i noRecord) (open-with-padded p (kept-command p (R .whole)) size) ∙ padded rs (recordLimit - length rs) i noRecord
+
   entry : (k : ℕ) → entryAfter (p .records) m k ≡ getD rs′ k noRecord
   entry k = go (ltb k (m .first)) refl (eqb k (m .first)) refl
     where
-      own : (i : ℕ) → getD (p .records) i noRecord ≡ getD rs i noRecord
-      own i =
-          ap (λ (l : List Record). getD l i noRecord) (open-with-padded p (kept-command p (R .whole)) size)
-          ∙ padded rs (recordLimit - length rs) i noRecord
-
       inside : m .first ≤ length rs
       inside = omega (arith, F .order, F .most)
 
@@ -108,6 +106,23 @@ module _ (p : CommandState) (a n : ℕ) (R : Room p a (suc n)) (size : length (p
           entry-behind (p .records) m k above ∙ own (m .last + (k - suc (m .first)))
           ∙ sym (put-behind rs (m .first) (m .last) (between (m .low) (m .high)) inside k above)
 
+  -- the entries that are not written stay: each keeps its place, or is unused before and after
+  unchanged : (k : ℕ) → changedUpTo (length rs) m ≤ k → k < recordLimit → entryAfter (p .records) m k ≡ getD (p .records) k noRecord
+  unfolding changedUpTo
+  unchanged k = go (eqb (m .last) (m .first + 1)) refl
+    where
+      at : m .first < k → entryAfter (p .records) m k ≡ getD rs (m .last + (k - suc (m .first))) noRecord
+      at above = entry-behind (p .records) m k above ∙ own (m .last + (k - suc (m .first)))
+
+      go : (b : Bool) → eqb (m .last) (m .first + 1) ≡ b → cond b (m .last) (min (length rs + 1) recordLimit) ≤ k → k < recordLimit
+          → entryAfter (p .records) m k ≡ getD (p .records) k noRecord
+      go true e behind below =
+          let one = eqb-true (m .last) (m .first + 1) e in
+          at (omega arith) ∙ ap (λ (i : ℕ). getD rs i noRecord) (omega arith) ∙ sym (own k)
+      go false e behind below =
+          let far : length rs ≤ m .last + (k - suc (m .first)) = omega (arith, F .order, F .most) in
+          at (omega (arith, F .order, F .most)) ∙ List·getD-eq-default rs noRecord far ∙ sym (own k ∙ List·getD-eq-default rs noRecord (omega arith))
+
   pub spliced-joined : spliced p m ≡ open-with (joined rs a (suc n))
   spliced-joined = sym (is-spliced p m true (length (joined rs a (suc n))) (open-with (joined rs a (suc n)) .records) (sym (R .opened)) count entries)
     where
@@ -120,8 +135,10 @@ module _ (p : CommandState) (a n : ℕ) (R : Room p a (suc n)) (size : length (p
           ∙ ap (λ (l : List Record). getD l k noRecord) (F .joins)
           ∙ sym (entry k) ∙ sym (wanted-at p m k (omega (arith, length-open-with (joined rs a (suc n)) (R .few))))
 
-      entries : open-with (joined rs a (suc n)) .records ≡ wanted p m
-      entries = ext-getD noRecord (open-with (joined rs a (suc n)) .records) (wanted p m) (length-open-with (joined rs a (suc n)) (R .few) ∙ sym (wanted-size p m)) at-each
+      entries : open-with (joined rs a (suc n)) .records ≡ written p m (changedUpTo (length rs) m)
+      entries =
+          ext-getD noRecord (open-with (joined rs a (suc n)) .records) (wanted p m) (length-open-with (joined rs a (suc n)) (R .few) ∙ sym (wanted-size p m)) at-each
+          ∙ sym (back-written p m size (changedUpTo (length rs) m) (changed-within (length rs) m (omega (arith, F .most, length-take (p .count) (p .records)))) unchanged)
 
   pub place-found : m .below + min (a - m .low) windowLimit ≡ place (joined rs a (suc n)) a
   place-found =

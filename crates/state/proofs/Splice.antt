@@ -1,15 +1,14 @@
 -- For the loop that writes the entries of a command with the union put in, one after the other.
-use Prim.Native.Nat.{ℕ, suc, _+_, _-_, _≤_, _<_}
+use Prim.Native.Nat.{ℕ, _+_, _-_, _≤_, _<_, min}
 use native.Mathlib.Omega.{arith}
 use native.Mathlib.Nat.{zero-add}
-use native.Mathlib.Numerals.{add-one}
-use mathlib.Core.Path.{_≡_, refl, ap, ap₂, sym, _∙_}
+use mathlib.Core.Path.{_≡_, ap, ap₂, sym, _∙_}
 use mathlib.Core.List.{List, [], _++_, map, append-nil}
 use mathlib.Core.Bool.{Bool, true, false, cond}
-use lib.ListN.{length, take, drop, getD, set, length-map, length-drop, take-append-drop, drop-of-length-le}
-use lib.Seq.{paste, paste-suc, take-all, length-take-le, getD-take, getD-drop, ext-getD}
+use lib.ListN.{length, take, drop, getD, set, length-map, length-drop, take-append-drop}
+use lib.Seq.{paste, length-take-le, getD-take, getD-drop, ext-getD}
 use lib.Dec.{eqb}
-use borrow.Author.Tests.{eqb-true}
+use Rattle.octets.proofs.Overwrite.{paste-more}
 use Rattle.state.specs.declared.Record.{Record}
 use Rattle.state.specs.declared.CommandState.{CommandState}
 use Rattle.state.specs.declared.join.Meeting.{Meeting}
@@ -17,8 +16,16 @@ use Rattle.state.specs.Limits.{recordLimit}
 use Rattle.state.specs.Records.{span}
 use Rattle.state.specs.State.{noRecord, recordsIn}
 use Rattle.state.specs.Join.{entryAfter, changedUpTo, spliced}
-use Rattle.state.proofs.Search.{entry-before, entry-behind}
+use Rattle.state.proofs.Search.{entry-before}
 use Rattle.state.proofs.Places.{span-at, length-span}
+
+pub changed-within : (used : ℕ) (m : Meeting) → m .last ≤ recordLimit → changedUpTo used m ≤ recordLimit
+unfolding changedUpTo
+changed-within used m most = go (eqb (m .last) (m .first + 1))
+  where
+    go : (b : Bool) → cond b (m .last) (min (used + 1) recordLimit) ≤ recordLimit
+    go true = most
+    go false = omega arith
 
 -- the entries wanted
 abbrev pub wanted : CommandState → Meeting → List Record
@@ -37,14 +44,14 @@ module _ (p : CommandState) (m : Meeting) where
       ap (λ (xs : List ℕ). getD (map (entryAfter (p .records) m) xs) k noRecord) (sym (append-nil (span 0 recordLimit)))
       ∙ span-at (entryAfter (p .records) m) noRecord 0 recordLimit [] k h ∙ ap (entryAfter (p .records) m) (zero-add k)
 
-  module _ (size : length (p .records) ≡ recordLimit) (k : ℕ) (most : k ≤ recordLimit) where
-    written-is : written p m k ≡ take k (wanted p m) ++ drop k (p .records)
-    written-is = ap (λ (j : ℕ). take k (wanted p m) ++ drop j (p .records)) (zero-add k)
+  written-is : (k : ℕ) → written p m k ≡ take k (wanted p m) ++ drop k (p .records)
+  written-is k = ap (λ (j : ℕ). take k (wanted p m) ++ drop j (p .records)) (zero-add k)
 
+  module _ (size : length (p .records) ≡ recordLimit) (k : ℕ) (most : k ≤ recordLimit) where
     -- where the first k entries stay as they are, they are written already
     pub front-written : ((i : ℕ) → i < k → entryAfter (p .records) m i ≡ getD (p .records) i noRecord) → p .records ≡ written p m k
     front-written same =
-        sym (written-is ∙ ap (λ (l : List Record). l ++ drop k (p .records)) (ext-getD noRecord (take k (wanted p m)) (take k (p .records)) sizes alike) ∙ take-append-drop k (p .records))
+        sym (written-is k ∙ ap (λ (l : List Record). l ++ drop k (p .records)) (ext-getD noRecord (take k (wanted p m)) (take k (p .records)) sizes alike) ∙ take-append-drop k (p .records))
       where
         sizes : length (take k (wanted p m)) ≡ length (take k (p .records))
         sizes = length-take-le k (wanted p m) (omega (arith, wanted-size)) ∙ sym (length-take-le k (p .records) (omega arith))
@@ -55,9 +62,9 @@ module _ (p : CommandState) (m : Meeting) where
             getD-take k (wanted p m) i noRecord near ∙ wanted-at i (omega arith) ∙ same i near ∙ sym (getD-take k (p .records) i noRecord near)
 
     -- and where those from k on do, all are
-    pub back-written : ((i : ℕ) → k ≤ i → entryAfter (p .records) m i ≡ getD (p .records) i noRecord) → written p m k ≡ wanted p m
+    pub back-written : ((i : ℕ) → k ≤ i → i < recordLimit → entryAfter (p .records) m i ≡ getD (p .records) i noRecord) → written p m k ≡ wanted p m
     back-written same =
-        written-is ∙ ap (λ (l : List Record). take k (wanted p m) ++ l) (ext-getD noRecord (drop k (p .records)) (drop k (wanted p m)) sizes alike) ∙ take-append-drop k (wanted p m)
+        written-is k ∙ ap (λ (l : List Record). take k (wanted p m) ++ l) (ext-getD noRecord (drop k (p .records)) (drop k (wanted p m)) sizes alike) ∙ take-append-drop k (wanted p m)
       where
         sizes : length (drop k (p .records)) ≡ length (drop k (wanted p m))
         sizes = simp length-drop (omega (arith, wanted-size, size))
@@ -65,9 +72,9 @@ module _ (p : CommandState) (m : Meeting) where
         alike : (i : ℕ) → i < length (drop k (p .records)) → getD (drop k (p .records)) i noRecord ≡ getD (drop k (wanted p m)) i noRecord
         alike i h =
             let near : k + i < recordLimit = omega (arith, length-drop k (p .records)) in
-            getD-drop k (p .records) i noRecord ∙ sym (same (k + i) (omega arith)) ∙ sym (wanted-at (k + i) near) ∙ sym (getD-drop k (wanted p m) i noRecord)
+            getD-drop k (p .records) i noRecord ∙ sym (same (k + i) (omega arith) near) ∙ sym (wanted-at (k + i) near) ∙ sym (getD-drop k (wanted p m) i noRecord)
 
-  -- before the first record that is met nothing changes, nor behind the entry up to which entries do
+  -- before the first record that is met nothing changes
   pub none-written : length (p .records) ≡ recordLimit → m .first ≤ recordLimit → p .records ≡ written p m (m .first)
   none-written size most = front-written size (m .first) most (λ i h. entry-before (p .records) m i h)
 
@@ -75,31 +82,22 @@ module _ (p : CommandState) (m : Meeting) where
     pub one-written : (r : Record) → k < recordLimit → r ≡ entryAfter (p .records) m k → set entries k r ≡ written p m (k + 1)
     one-written r h e =
         ap₂ (λ (l : List Record) (t : Record). set l k t) so-far (e ∙ sym (wanted-at k h))
-        ∙ ap (λ (j : ℕ). set (written p m k) j (getD (wanted p m) k noRecord)) (sym (zero-add k))
-        ∙ paste-suc (p .records) 0 (wanted p m) k noRecord (omega (arith, zero-add k)) (omega (arith, wanted-size))
-        ∙ ap (written p m) (sym (add-one k))
+        ∙ paste-more (p .records) (wanted p m) k noRecord (omega arith) (omega (arith, wanted-size))
 
-    pub all-written : recordLimit ≤ k → entries ≡ wanted p m
-    all-written h =
-        so-far
-        ∙ ap₂ _++_ (take-all k (wanted p m) (omega (arith, wanted-size))) (drop-of-length-le (p .records) {i = 0 + k} (omega (arith, zero-add k)))
-        ∙ append-nil (wanted p m)
-
-  own-place : (i : ℕ) → m .first < i → m .last ≡ m .first + 1 → m .last + (i - suc (m .first)) ≡ i
-  own-place i h next = omega arith
-
-  pub rest-written : length (p .records) ≡ recordLimit → m .last ≤ recordLimit → written p m (changedUpTo m) ≡ wanted p m
-  unfolding changedUpTo
-  rest-written size most = go (eqb (m .last) (m .first + 1)) refl
-    where
-      go : (b : Bool) → eqb (m .last) (m .first + 1) ≡ b → written p m (cond b (m .last) recordLimit) ≡ wanted p m
-      go true e =
-          let next = eqb-true (m .last) (m .first + 1) e in
-          back-written size (m .last) most (λ i h. entry-behind (p .records) m i (omega arith) ∙ ap (λ (j : ℕ). getD (p .records) j noRecord) (own-place i (omega arith) next))
-      go false e = all-written size (written p m recordLimit) recordLimit refl (omega arith)
+  -- one entry more of a command whose other fields are the old ones
+  pub entry-stored :
+      length (p .records) ≡ recordLimit → (k end : ℕ) (next next′ : CommandState) → next .opened ≡ p .opened → next .records ≡ written p m k → m .first ≤ k → k < end → end ≤ recordLimit
+      → (r : Record) → next′ ≡ record { opened = next .opened; count = next .count; records = set (next .records) k r } → r ≡ entryAfter (p .records) m k
+      → (next′ .opened ≡ p .opened) × (next′ .records ≡ written p m (k + 1)) × (m .first ≤ k + 1) × (k + 1 ≤ end)
+  entry-stored size k end next next′ opened so-far behind below most r stored is = (
+    ap (λ (q : CommandState). q .opened) stored ∙ opened,
+    ap (λ (q : CommandState). q .records) stored ∙ one-written size (next .records) k so-far r (omega arith) is,
+    omega arith,
+    omega arith,
+  )
 
   pub is-spliced :
-      (opened : Bool) (count : ℕ) (entries : List Record) → opened ≡ p .opened → count ≡ m .first + 1 + (length (recordsIn p) - m .last) → entries ≡ wanted p m
+      (opened : Bool) (count : ℕ) (entries : List Record) → opened ≡ p .opened → count ≡ m .first + 1 + (length (recordsIn p) - m .last) → entries ≡ written p m (changedUpTo (length (recordsIn p)) m)
       → _≡_ {A = CommandState} (record { opened = opened; count = count; records = entries }) (spliced p m)
   unfolding spliced
-  is-spliced opened count entries a b c = λ i. record { opened = a i; count = b i; records = c i }
+  is-spliced opened count entries a b c = λ i. record { opened = a i; count = b i; records = (c ∙ written-is (changedUpTo (length (recordsIn p)) m)) i }

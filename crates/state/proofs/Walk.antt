@@ -5,14 +5,18 @@ use native.Mathlib.Numerals.{add-one}
 use mathlib.Core.Path.{_≡_, refl, ap, sym, _∙_}
 use mathlib.Core.List.{List, [], _∷_}
 use mathlib.Core.Bool.{Bool, true, false, _&&_}
-use lib.Dec.{eqb}
+use mathlib.Core.Logic.{_≢_}
+use lib.Dec.{eqb, leb}
 use lib.ListN.{length, drop, getD, length-take, drop-of-length-le}
 use lib.Seq.{drop-cons, getD-take}
-use borrow.Author.Tests.{eqb-true}
+use borrow.Author.Tests.{eqb-true, eqb-false, eq-eqb, ne-eqb}
 use Rattle.octets.specs.Lists.{all}
 use Rattle.state.specs.declared.Record.{Record}
 use Rattle.state.specs.declared.CommandState.{CommandState}
-use Rattle.state.specs.State.{noRecord, recordsIn, isZero}
+use Rattle.state.specs.Limits.{heldLimit, windowLimit}
+use Rattle.state.specs.Records.{past, total}
+use Rattle.state.specs.State.{noRecord, recordsIn, ascending, isZero}
+use Rattle.state.proofs.Cases.{ascending-next}
 
 -- of any list
 next : {A : Type 0} (l : List A) (i : ℕ) (d : A) → i < length l → drop i l ≡ getD l i d ∷ drop (i + 1) l
@@ -32,25 +36,44 @@ module _ (p : CommandState) (i : ℕ) (h : i < length (recordsIn p)) where
 pub no-record : (p : CommandState) (i : ℕ) → length (recordsIn p) ≤ i → drop i (recordsIn p) ≡ []
 no-record p i h = drop-of-length-le (recordsIn p) {i = i} h
 
--- The same for the entries behind the records, which must be zero.
+-- what the loop over the rules of the records has still to find, where it has come to an address and a sum
+abbrev pub keptFrom : ℕ → ℕ → List Record → Bool
+keptFrom low sum rs = ascending low rs && leb (sum + total rs) heldLimit
 
-module _ (entries : List Record) (i : ℕ) (h : i < length entries) {z : Bool} (e : all isZero (drop i entries) ≡ z) where
-  zeros-left : all isZero (getD entries i noRecord ∷ drop (i + 1) entries) ≡ z
-  zeros-left = sym (ap (all isZero) (next entries i noRecord h)) ∙ e
+module _ (p : CommandState) (i low sum : ℕ) (h : i < length (recordsIn p)) {z : Bool} (e : keptFrom low sum (drop i (recordsIn p)) ≡ z) where
+  abbrev r : Record
+  r = getD (p .records) i noRecord
 
-  pub entry-used : (getD entries i noRecord .start ≡ 0 → getD entries i noRecord .len ≡ 0 → ⊥) → false ≡ z
-  unfolding all
-  entry-used used = go (eqb (getD entries i noRecord .start) 0) refl (eqb (getD entries i noRecord .len) 0) refl zeros-left
-    where
-      go : (a : Bool) → eqb (getD entries i noRecord .start) 0 ≡ a → (b : Bool) → eqb (getD entries i noRecord .len) 0 ≡ b
-          → (a && b && all isZero (drop (i + 1) entries)) ≡ z → false ≡ z
-      go true q true w k = absurd (used (eqb-true _ _ q) (eqb-true _ _ w))
-      go true q false w k = k
-      go false q b w k = k
+  pub record-fails : ascending low (r ∷ drop (i + 1) (recordsIn p)) ≡ false → false ≡ z
+  record-fails k = rw k at (at-next p i h (keptFrom low sum) e)
 
-  pub entry-unused : getD entries i noRecord .start ≡ 0 → getD entries i noRecord .len ≡ 0 → all isZero (drop (i + 1) entries) ≡ z
-  unfolding all
-  entry-unused a b = rw (a, b) at zeros-left
+  pub record-kept : low ≤ r .start → past r ≢ r .start → past r ≤ windowLimit → keptFrom (past r) (sum + r .len) (drop (i + 1) (recordsIn p)) ≡ z
+  unfolding total
+  record-kept a b c =
+      let rest = drop (i + 1) (recordsIn p) in
+      let sums : sum + r .len + total rest ≡ sum + (r .len + total rest) = omega arith in
+      rw (← ascending-next low r rest a b c, sums) (at-next p i h (keptFrom low sum) e)
+
+-- The same for the entries behind the records, which are zero if the sum of their fields is.
+
+zero-sum : (a b : ℕ) → eqb (a + b) 0 ≡ (eqb a 0 && eqb b 0)
+zero-sum a b = go (eqb a 0) refl (eqb b 0) refl
+  where
+    go : (p : Bool) → eqb a 0 ≡ p → (q : Bool) → eqb b 0 ≡ q → eqb (a + b) 0 ≡ (p && q)
+    go true e true f = eq-eqb (a + b) 0 (omega (arith, eqb-true a 0 e, eqb-true b 0 f))
+    go true e false f = ne-eqb (a + b) 0 (omega (arith, eqb-false b 0 f))
+    go false e q f = ne-eqb (a + b) 0 (omega (arith, eqb-false a 0 e))
+
+pub one-summed : (entries : List Record) (i sum : ℕ) → i < length entries
+    → (eqb (sum + getD entries i noRecord .start + getD entries i noRecord .len) 0 && all isZero (drop (i + 1) entries)) ≡ (eqb sum 0 && all isZero (drop i entries))
+unfolding all
+one-summed entries i sum h =
+    let r = getD entries i noRecord in
+    rw (zero-sum (sum + r .start) (r .len), zero-sum sum (r .start), next entries i noRecord h) (go (eqb sum 0) (eqb (r .start) 0) (eqb (r .len) 0) (all isZero (drop (i + 1) entries)))
+  where
+    go : (b c d e : Bool) → (b && c && d && e) ≡ (b && (c && d && e))
+    go true c d e = refl
+    go false c d e = refl
 
 -- The same for a test on the commands of a state.
 

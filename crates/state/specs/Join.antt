@@ -49,16 +49,20 @@ entryAfter entries m k =
     cond (ltb k (m .first)) (getD entries k noRecord)
     (cond (eqb k (m .first)) (unionOf m) (getD entries (m .last + (k - suc (m .first))) noRecord))
 
--- the entry up to which entries change
-unfoldable pub changedUpTo : Meeting → ℕ
-changedUpTo m = cond (eqb (m .last) (m .first + 1)) (m .last) recordLimit
+-- The entry up to which entries change: where the union takes the place of one record the others keep theirs, and elsewhere the unused
+-- ones do, but for the first of them.
+unfoldable pub changedUpTo : (used : ℕ) → Meeting → ℕ
+changedUpTo used m = cond (eqb (m .last) (m .first + 1)) (m .last) (min (used + 1) recordLimit)
 
 unfoldable pub spliced : CommandState → Meeting → CommandState
-spliced p m = record {
-  opened = p .opened;
-  count = m .first + 1 + (length (recordsIn p) - m .last);
-  records = map (entryAfter (p .records) m) (span 0 recordLimit);
-}
+spliced p m =
+    let used = length (recordsIn p) in
+    let end = changedUpTo used m in
+    record {
+      opened = p .opened;
+      count = m .first + 1 + (used - m .last);
+      records = take end (map (entryAfter (p .records) m) (span 0 recordLimit)) ++ drop end (p .records);
+    }
 
 unfoldable pub join : CommandState → (a e : ℕ) → Join
 join p a e =

@@ -1,10 +1,11 @@
 // Whether a state holds together, for any value of the types.
 ghost use mathlib.Core.Path.{_≡_};
-ghost use mathlib.Core.Bool.{true};
+ghost use mathlib.Core.Bool.{true, _&&_};
+ghost use lib.Dec.{leb};
 ghost use Prim.Native.Nat.{_<_, _≤_};
 ghost use lib.ListN.{length, drop};
 ghost use Rattle.octets.specs.Lists.{all};
-ghost use Rattle.state.specs.Limits.{recordLimit};
+ghost use Rattle.state.specs.Limits.{recordLimit, heldLimit};
 ghost use Rattle.state.specs.Records.{total};
 ghost use Rattle.state.specs.State.{recordsIn, ascending, isZero, commandHolds, holds, hasShape};
 use super::CacheState;
@@ -45,17 +46,20 @@ impl CommandState {
         sum
     }
 
-    // Whether each record starts behind the one before it, is not empty, and ends where addresses do.
-    fn in_order(self) -> bool
-        ensures { λ r. ⌜ r ≡ ascending 0 (recordsIn self) ⌝ }
+    // Whether each record starts behind the one before it, is not empty and ends where addresses do, and they hold no more bytes than
+    // a command may.
+    fn records_hold(self) -> bool
+        ensures { λ r. ⌜ r ≡ (ascending 0 (recordsIn self) && leb (total (recordsIn self)) heldLimit) ⌝ }
     {
         let used = self.used();
         let mut low = 0;
+        let mut sum = 0;
         let mut i = 0;
         while i < used {
             let r = self.records[i];
             let start = wide(r.start);
-            let past = start + wide(r.len);
+            let len = wide(r.len);
+            let past = start + len;
             if start < low {
                 return false;
             }
@@ -66,27 +70,25 @@ impl CommandState {
                 return false;
             }
             low = past;
+            sum = sum + len;
             i = i + 1;
         }
-        true
+        sum <= CacheState::HELD
     }
 
-    // Whether the entries behind the records are zero.
+    // Whether the entries behind the records are zero. Their fields are summed, with no test before the end, so that many are looked at
+    // in one instruction.
     fn unused_zero(self) -> bool
         ensures { λ r. ⌜ r ≡ all isZero (drop (self .count) (self .records)) ⌝ }
     {
+        let mut sum: u32 = 0;
         let mut i = self.count;
         while i < CacheState::RECORDS {
             let r = self.records[i];
-            if wide(r.start) != 0 {
-                return false;
-            }
-            if wide(r.len) != 0 {
-                return false;
-            }
+            sum = sum + r.start as u32 + r.len as u32;
             i = i + 1;
         }
-        true
+        sum == 0
     }
 
     // Whether the command keeps to every rule. Its type gives it all its entries.
@@ -94,23 +96,20 @@ impl CommandState {
         ensures { λ r. ⌜ (r ≡ commandHolds self) × (length (self .records) ≡ recordLimit) ⌝ }
     {
         let count = self.count;
+        if count == 0 {
+            return self.unused_zero();
+        }
+        let opened = self.opened;
+        if !opened {
+            return false;
+        }
         if CacheState::RECORDS < count {
             return false;
         }
-        if !self.in_order() {
+        if !self.records_hold() {
             return false;
         }
-        if CacheState::HELD < self.held_from(0) {
-            return false;
-        }
-        if !self.unused_zero() {
-            return false;
-        }
-        let opened = self.opened;
-        if opened {
-            return true;
-        }
-        count == 0
+        self.unused_zero()
     }
 }
 

@@ -1,10 +1,10 @@
 // The records that meet a span, found by one search from the lowest start upward, and the records after the span is joined.
 ghost use mathlib.Core.Path.{_≡_};
-ghost use Prim.Native.Nat.{_≤_, _<_};
+ghost use Prim.Native.Nat.{_≤_};
 ghost use lib.ListN.{length};
 ghost use Rattle.state.specs.Limits.{recordLimit};
 ghost use Rattle.state.specs.State.{recordsIn};
-ghost use Rattle.state.specs.Join.{meeting, entryAfter, changedUpTo, spliced, Joins};
+ghost use Rattle.state.specs.Join.{meeting, unionOf, changedUpTo, spliced, Joins};
 ghost use Rattle.state.specs.Bounds.{Counted, Passed};
 use super::CacheState;
 use super::CommandState;
@@ -59,9 +59,32 @@ fn pass(m: Meeting, r: Record, address: usize) -> Meeting
     }
 }
 
+// The union, as its entry holds it.
+fn union(m: Meeting) -> Record
+    ensures { λ r. ⌜ r ≡ unionOf m ⌝ }
+{
+    let size = octets::minus(m.high, m.low);
+    Record {
+        start: (m.low % 65536) as u16,
+        len: (size % 65536) as u16,
+    }
+}
+
+// The entry up to which entries change, where `used` are records.
+fn changed_up_to(used: usize, m: Meeting) -> usize
+    requires { ⌜ (m .first ≤ m .last) × (m .last ≤ used) × (used ≤ recordLimit) ⌝ }
+    ensures { λ r. ⌜ (r ≡ changedUpTo used m) × (m .first ≤ r) × (r ≤ recordLimit) ⌝ }
+{
+    if m.last == m.first + 1 {
+        m.last
+    } else {
+        octets::lesser(used + 1, CacheState::RECORDS)
+    }
+}
+
 impl CommandState {
     // How the span from `address` up to `end` lies among the records.
-    pub fn meeting(self, address: usize, end: usize) -> Meeting
+    fn meeting(self, address: usize, end: usize) -> Meeting
         ensures { λ r. ⌜ (r ≡ meeting (recordsIn self) address end) × Counted r recordLimit ⌝ }
     {
         let used = self.used();
@@ -85,56 +108,29 @@ impl CommandState {
         m
     }
 
-    // The entry at k after the union has taken the place of the records that were met.
-    fn entry_after(self, m: Meeting, k: usize) -> Record
-        requires { ⌜ (m .last ≤ recordLimit) × (k < recordLimit) ⌝ }
-        ensures { λ r. ⌜ r ≡ entryAfter (self .records) m k ⌝ }
-    {
-        let first = m.first;
-        if k < first {
-            return self.records[k];
-        }
-        if k == first {
-            let size = octets::minus(m.high, m.low);
-            return Record {
-                start: (m.low % 65536) as u16,
-                len: (size % 65536) as u16,
-            };
-        }
-        let at = m.last + (k - first - 1);
-        if at < CacheState::RECORDS {
-            return self.records[at];
-        }
-        Record { start: 0, len: 0 }
-    }
-
-    // The entry up to which entries change: where the union takes the place of one record, the others keep theirs.
-    fn changed_up_to(m: Meeting) -> usize
-        requires { ⌜ (m .first ≤ m .last) × (m .last ≤ recordLimit) ⌝ }
-        ensures { λ r. ⌜ (r ≡ changedUpTo m) × (m .first ≤ r) × (r ≤ recordLimit) ⌝ }
-    {
-        if m.last == m.first + 1 {
-            m.last
-        } else {
-            CacheState::RECORDS
-        }
-    }
-
     // The command with the union in the place of the records that were met.
     fn spliced(self, m: Meeting) -> CommandState
         requires { ⌜ (m .first ≤ m .last) × (m .last ≤ length (recordsIn self)) ⌝ }
         ensures { λ r. ⌜ r ≡ spliced self m ⌝ }
     {
         let used = self.used();
-        let end = CommandState::changed_up_to(m);
+        let first = m.first;
+        let end = changed_up_to(used, m);
         let mut next = self;
-        let mut k = m.first;
+        let mut k = first;
         while k < end {
-            let r = self.entry_after(m, k);
-            next.records[k] = r;
+            let at = m.last + (k - first);
+            if k == first {
+                next.records[k] = union(m);
+            } else if at <= CacheState::RECORDS {
+                let r = self.records[at - 1];
+                next.records[k] = r;
+            } else {
+                next.records[k] = Record { start: 0, len: 0 };
+            }
             k = k + 1;
         }
-        next.count = m.first + 1 + (used - m.last);
+        next.count = first + 1 + (used - m.last);
         next
     }
 

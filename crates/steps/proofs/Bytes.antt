@@ -1,12 +1,10 @@
 -- The bytes of hexadecimal digits: how many there are, and which stands where.
 use Prim.Native.Nat.{ℕ, zero, suc, _+_, _*_, _/_, _<_}
-use native.Mathlib.Nat.{zero-add}
-use native.Mathlib.Numerals.{add-one}
 use native.Mathlib.Omega.{arith}
-use mathlib.Core.Path.{_≡_, refl, ap, sym, subst, _∙_}
+use mathlib.Core.Path.{_≡_, refl, ap, sym, _∙_}
 use mathlib.Core.List.{List, [], _∷_}
-use lib.ListN.{length, take, getD, set}
-use lib.Seq.{paste, paste-suc, take-nil}
+use lib.ListN.{length, take, getD}
+use lib.Seq.{take-nil}
 use Rattle.octets.specs.Lists.{overwrite}
 use Rattle.octets.proofs.Overwrite.{overwrite-none}
 use Rattle.steps.specs.Fields.{bytesOf, pairValue}
@@ -25,13 +23,6 @@ bytes-at (x ∷ y ∷ word) zero h = refl
 bytes-at (x ∷ y ∷ word) (suc i) h =
     let odd : 2 * suc i + 1 ≡ suc (suc (2 * i + 1)) = omega arith in
     let even : 2 * suc i ≡ suc (suc (2 * i)) = omega arith in rw (odd, even) (bytes-at word i (omega arith))
-
--- a turn's store makes it a copy of one byte more
-pub store : (buffer source : List ℕ) (i : ℕ) → i < length buffer → i < length source → set (paste buffer 0 source i) i (getD source i 0) ≡ paste buffer 0 source (i + 1)
-store buffer source i room more =
-    let room′ : 0 + i < length buffer = omega arith in
-    rw add-one
-    (subst (λ (k : ℕ). set (paste buffer 0 source i) k (getD source i 0) ≡ paste buffer 0 source (suc i)) (zero-add i) (paste-suc buffer 0 source i 0 room′ more))
 
 -- no bytes leave a buffer as it is
 pub nothing-put : (buffer : List ℕ) → buffer ≡ overwrite buffer 0 (take (length buffer) [])

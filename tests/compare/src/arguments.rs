@@ -1,7 +1,4 @@
-//! What the command line asks for.
-
-use std::ffi::{OsStr, OsString};
-use std::path::PathBuf;
+//! What the command line can ask for.
 
 /// How the program is used.
 pub const USAGE: &str = "\
@@ -24,45 +21,5 @@ The last line is 'N passed, M failed'. Status: 0 if M is 0, 1 if not, 2 if
 nothing could be compared.
 ";
 
-/// The program and the numbers.
-#[derive(Debug, PartialEq, Eq)]
-pub struct Arguments {
-    pub program: PathBuf,
-    pub journals: u64,
-    pub seed: u64,
-    pub frames: u64,
-}
-
-impl Arguments {
-    /// Reads the words after the program's own name. Nothing, if they are not
-    /// as [`USAGE`] says.
-    pub fn parse(words: impl IntoIterator<Item = OsString>) -> Option<Arguments> {
-        let mut words = words.into_iter();
-        let mut program = None;
-        let (mut journals, mut seed, mut frames) = (3_000, 0, 0);
-        while let Some(word) = words.next() {
-            let number = match word.to_str() {
-                Some("--journals") => &mut journals,
-                Some("--seed") => &mut seed,
-                Some("--frames") => &mut frames,
-                _ if program.is_none() && is_path(&word) => {
-                    program = Some(PathBuf::from(word));
-                    continue;
-                }
-                _ => return None,
-            };
-            *number = words.next()?.to_str()?.parse().ok()?;
-        }
-        Some(Arguments {
-            program: program?,
-            journals,
-            seed,
-            frames,
-        })
-    }
-}
-
-/// Whether a word is neither empty nor an option.
-fn is_path(word: &OsStr) -> bool {
-    !word.is_empty() && !word.as_encoded_bytes().starts_with(b"-")
-}
+/// The options, each with the number that it has if it is left out.
+pub const OPTIONS: [(&str, u64); 3] = [("--journals", 3_000), ("--seed", 0), ("--frames", 0)];

@@ -4,7 +4,8 @@ use std::fmt;
 use std::io::{self, Write};
 use std::path::{self, Path};
 
-use crate::arguments::Arguments;
+use sampling::arguments::Arguments;
+
 use crate::case::{Case, Outcome};
 use crate::fixed;
 use crate::tally::{Tally, LETTERS, REFUSALS};
@@ -25,18 +26,19 @@ pub struct Sums {
 }
 
 /// Compares all that the arguments ask for, and writes down each complaint.
-pub fn run(arguments: &Arguments, out: &mut impl Write) -> io::Result<Sums> {
+pub fn run(arguments: &Arguments<3>, out: &mut impl Write) -> io::Result<Sums> {
     let program = path::absolute(&arguments.program)?;
+    let [journals, seed, frames] = arguments.numbers;
     let mut sums = Sums::default();
     compare_fixed(&program, &mut sums, out)?;
-    while sums.journals < arguments.journals || sums.tally.frames < arguments.frames {
-        let missing = arguments.journals.saturating_sub(sums.journals);
+    while sums.journals < journals || sums.tally.frames < frames {
+        let missing = journals.saturating_sub(sums.journals);
         let count = if missing == 0 {
             BATCH
         } else {
             missing.min(BATCH)
         };
-        let first = arguments.seed.wrapping_add(sums.journals);
+        let first = seed.wrapping_add(sums.journals);
         compare_journals(&program, first, count, &mut sums, out)?;
     }
     Ok(sums)

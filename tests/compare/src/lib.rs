@@ -20,7 +20,7 @@
 //! - [`tally`]: what the lines of a log say, counted.
 //! - [`workers`]: two threads for many cases.
 //! - [`campaign`]: all cases of a run, and its sums.
-//! - [`arguments`]: what the command line asks for.
+//! - [`arguments`]: what the command line can ask for.
 
 pub mod arguments;
 pub mod brims;

@@ -3,18 +3,17 @@
 use std::ffi::OsString;
 use std::path::PathBuf;
 
-use compare::arguments::Arguments;
+use compare::arguments::OPTIONS;
+use sampling::arguments::Arguments;
 
-fn parse(words: &[&str]) -> Option<Arguments> {
-    Arguments::parse(words.iter().map(OsString::from))
+fn parse(words: &[&str]) -> Option<Arguments<3>> {
+    Arguments::parse(words.iter().map(OsString::from), OPTIONS)
 }
 
-fn arguments(program: &str, journals: u64, seed: u64, frames: u64) -> Option<Arguments> {
+fn arguments(program: &str, journals: u64, seed: u64, frames: u64) -> Option<Arguments<3>> {
     Some(Arguments {
         program: PathBuf::from(program),
-        journals,
-        seed,
-        frames,
+        numbers: [journals, seed, frames],
     })
 }
 

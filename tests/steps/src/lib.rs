@@ -6,7 +6,7 @@
 //! - [`fixed`]: good inputs that are run every time.
 //! - [`bad`]: lines without a frame, each with the reason that must be given.
 //! - [`case`]: one input with what the program must write for it.
-//! - [`arguments`]: what the command line asks for.
+//! - [`arguments`]: what the command line can ask for.
 
 pub mod arguments;
 pub mod bad;

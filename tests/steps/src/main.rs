@@ -5,28 +5,20 @@ use std::io;
 use std::path;
 use std::process::ExitCode;
 
-use steps::arguments::{Arguments, USAGE};
+use sampling::arguments::{status, Arguments};
+use steps::arguments::{OPTIONS, USAGE};
 use steps::{bad, fixed, random};
 
 fn main() -> ExitCode {
-    let Some(arguments) = Arguments::parse(env::args_os().skip(1)) else {
-        eprint!("{USAGE}");
-        return ExitCode::from(2);
-    };
-    match run(&arguments) {
-        Ok(0) => ExitCode::SUCCESS,
-        Ok(_) => ExitCode::FAILURE,
-        Err(error) => {
-            eprintln!("steps: {error}");
-            ExitCode::from(2)
-        }
-    }
+    let arguments = Arguments::parse(env::args_os().skip(1), OPTIONS);
+    status("steps", USAGE, arguments, run)
 }
 
 /// Prints complaints and sums, and answers how many cases failed.
-fn run(arguments: &Arguments) -> io::Result<u64> {
+fn run(arguments: &Arguments<2>) -> io::Result<u64> {
     let program = path::absolute(&arguments.program)?;
-    let files = (0..arguments.files).map(|place| random::case(arguments.seed.wrapping_add(place)));
+    let [files, seed] = arguments.numbers;
+    let files = (0..files).map(|place| random::case(seed.wrapping_add(place)));
     let cases = fixed::cases().into_iter().chain(bad::cases()).chain(files);
     let (mut passed, mut failed) = (0, 0);
     for case in cases {

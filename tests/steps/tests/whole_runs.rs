@@ -5,7 +5,8 @@ use std::ffi::OsString;
 use std::path::PathBuf;
 use std::process::{Command, Output};
 
-use steps::arguments::Arguments;
+use sampling::arguments::Arguments;
+use steps::arguments::OPTIONS;
 use steps::{bad, random};
 
 fn run(words: &[&str]) -> Output {
@@ -64,11 +65,10 @@ fn text_of(case: &steps::case::Case) -> String {
 
 #[test]
 fn the_words_of_the_command_line() {
-    let parse = |words: &[&str]| Arguments::parse(words.iter().map(OsString::from));
+    let parse = |words: &[&str]| Arguments::parse(words.iter().map(OsString::from), OPTIONS);
     let arguments = Arguments {
         program: PathBuf::from("a/b"),
-        files: 7,
-        seed: 9,
+        numbers: [7, 9],
     };
     assert_eq!(
         parse(&["--seed", "9", "a/b", "--files", "7"]),

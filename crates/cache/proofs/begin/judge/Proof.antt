@@ -12,9 +12,6 @@ use Rattle.state.proofs.Verdict.{verdict-stops, verdict-goes-on, verdict-gives}
 use Rattle.cache.specs.Begin.{beginSays}
 use Rattle.cache.proofs.begin.judge.Statement.{statement}
 use Rattle.cache.proofs.begin.judge.Tie as tie
-use Rattle.cache.proofs.begin.judge.Reads as reads
-use Rattle.cache.proofs.begin.judge.Lts as lts
-use Rattle.state.proofs.CacheState.holds.Reads as holds-reads
 
 returns : tie.Need-returns
 unfolding beginSays

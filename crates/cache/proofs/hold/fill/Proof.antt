@@ -14,11 +14,6 @@ use Rattle.cache.specs.Hold.{Fits, filled}
 use Rattle.cache.proofs.Filling.{Filling, Turn, filling-room, filling-start, filling-end, filled-size, turn, last-inside}
 use Rattle.cache.proofs.hold.fill.Statement.{statement}
 use Rattle.cache.proofs.hold.fill.Tie as tie
-use Rattle.cache.proofs.hold.fill.Reads as reads
-use Rattle.cache.proofs.hold.fill.Lts as lts
-use Rattle.cache.proofs.hold.read_host.Reads as read-host-reads
-use Rattle.octets.proofs.move_up.Reads as move-up-reads
-use Rattle.state.proofs.wide.Reads as wide-reads
 
 abbrev Inv-loop : tie.InvT-loop
 Inv-loop part₀ window fresh command first low gap₀ old₀ top₀ k₀ part gap old top k =

@@ -1,7 +1,7 @@
 -- Refused, nothing is written. Accepted, the fields fit, there is room, and head and data stand one behind the other.
 use Prim.Native.Nat.{ℕ, _-_}
 use native.Mathlib.Omega.{arith}
-use mathlib.Core.Path.{_≡_, refl, ap, _∙_}
+use mathlib.Core.Path.{_≡_, ap, _∙_}
 use mathlib.Core.List.{List, [], _∷_}
 use mathlib.Core.Bool.{true}
 use lib.ListN.{length}
@@ -15,7 +15,7 @@ use Rattle.frames.specs.Layout.{fieldWidths, byteWidths, headBytes}
 use Rattle.frames.specs.Write.{writeSays, writeOutput}
 use Rattle.frames.proofs.Bits.{pack-below}
 use Rattle.frames.proofs.Accepted.{Writable, writable, writable-fit, answered}
-use Rattle.frames.proofs.Heads.{behind}
+use Rattle.octets.proofs.Overwrite.{overwrite-then}
 use Rattle.frames.proofs.writer.write.Statement.{statement}
 use Rattle.frames.proofs.writer.write.Tie as tie
 
@@ -75,7 +75,7 @@ returns-2 c =
           ∙ ap (overwrite mid 5) (take-all (length mid - 5) bytes (omega (arith, c .before .before .before .before .before .before .write-head .kept .0, w .fits, w .same)))
           ∙ ap (λ (o : List ℕ). overwrite o 5 bytes) (c .before .before .before .before .before .before .write-head .ensures)
           ∙ ap (λ (n : ℕ). overwrite (overwrite out 0 (unpack byteWidths n)) 5 bytes) (c .before .before .before .before .before .before .before .packed .ensures)
-          ∙ behind out (headBytes (a .kind ∷ a .command ∷ a .address ∷ a .size ∷ 0 ∷ [])) bytes 5 refl
+          ∙ overwrite-then out (headBytes (a .kind ∷ a .command ∷ a .address ∷ a .size ∷ 0 ∷ [])) bytes 0 (omega arith)
           ∙ rw (fine (c .before .before .before .before .before .before .before .before .before)),
     )
 

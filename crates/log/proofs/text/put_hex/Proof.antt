@@ -1,135 +1,141 @@
--- The loop's invariant: the first i bytes are put. The measure is what is left of them.
-use Prim.Native.Nat.{ℕ, _+_, _-_, _*_, _/_, _≤_}
-use native.Mathlib.Numerals.{add-one}
+-- The bytes that fit are put, and then the one that is cut short, behind which there is no room.
+use Prim.Native.Nat.{ℕ, suc, _+_, _-_, _*_, _/_, _≤_, _<_, min}
 use native.Mathlib.Omega.{arith}
-use mathlib.Core.Path.{_≡_, refl, ap, sym, subst, _∙_}
+use mathlib.Core.Path.{_≡_, ap, sym, _∙_}
 use mathlib.Core.List.{List, _++_}
-use lib.ListN.{length, take, drop, getD, length-take, length-drop}
-use lib.Seq.{take-all}
+use lib.ListN.{length, take, drop, getD, length-take, length-drop, take-append-drop}
+use lib.Seq.{take-all, length-take-le}
 use denote.Ref.{now}
-use borrow.Author.Needs.{needs}
 use Rattle.octets.specs.Lists.{overwrite, part}
 use Rattle.octets.proofs.Overwrite.{overwrite-lent}
 use Rattle.log.specs.Text.{hexPair, hexadecimal, Puts}
-use Rattle.log.proofs.Putting.{puts-length, puts-is, puts-none, puts-both}
-use Rattle.log.proofs.Pairs.{hex-more, length-hex}
+use Rattle.log.proofs.Putting.{puts-is, puts-past, puts-both, puts-cut}
+use Rattle.log.proofs.Pairs.{hex-append, hex-more, length-hex}
+use borrow.Author.Needs.{needs}
 use Rattle.log.proofs.text.put_hex.Statement.{statement}
 use Rattle.log.proofs.text.put_hex.Tie as tie
 
-abbrev Inv-loop : tie.InvT-loop
-Inv-loop out₀ at bytes table next₀ i₀ out next i = (i ≤ length bytes) × (Puts out₀ at (hexadecimal (take i bytes)) next out)
+returns : tie.Need-returns
+returns c = let args = c .before .before .before .args in puts-past (now (args .out)) (args .at) (hexadecimal (now (args .bytes))) (omega arith)
 
-abbrev μ-loop : tie.MeasureT-loop
-μ-loop out₀ at bytes table next₀ i₀ out next i = length bytes - i
-
-hex-table-requires : tie.Need-hex-table-requires Inv-loop μ-loop
+hex-table-requires : tie.Need-hex-table-requires
 hex-table-requires c κs = search needs
 
-minus-requires : tie.Need-minus-requires Inv-loop μ-loop
-minus-requires c κs = search needs
+sub-lesser : tie.Need-sub-lesser
+sub-lesser c = search needs
 
-sub-put-pairs : tie.Need-sub-put-pairs Inv-loop μ-loop
-sub-put-pairs c = omega arith
-
-part-put-pairs-start : tie.Need-part-put-pairs-start Inv-loop μ-loop
-part-put-pairs-start c = omega arith
-
-part-put-pairs-end : tie.Need-part-put-pairs-end Inv-loop μ-loop
-part-put-pairs-end c = omega arith
-
-put-pairs-requires : tie.Need-put-pairs-requires Inv-loop μ-loop
-put-pairs-requires c κs = (c .before .before .before .before .before .hex-table .ensures, simp (length-take, length-drop) (omega arith))
-
-mul-result : tie.Need-mul-result Inv-loop μ-loop
-mul-result c = omega arith
-
-add-result : tie.Need-add-result Inv-loop μ-loop
-add-result c = omega arith
-
-same-length : tie.Need-same-length Inv-loop μ-loop
-same-length c = omega arith
-
--- the buffer, once the part that was lent is back, where there is room for all
-whole :
-    (out bytes : List ℕ) (at r : ℕ) → at ≤ length out → length bytes ≤ (length out - at) / 2 → r ≡ at + 2 * length bytes
-    → Puts out at (hexadecimal bytes) r (take at out ++ (overwrite (part out at (length out - at)) 0 (hexadecimal bytes) ++ drop (length out - at) (drop at out)))
-whole out bytes at r inside fits is =
-    let size : length (part out at (length out - at)) ≡ length out - at = simp (length-take, length-drop) (omega arith) in
-    let text = length-hex bytes in
-    record {
-      bytes = overwrite-lent out (hexadecimal bytes) at (length out - at) (omega arith) ∙ ap (overwrite out at) (sym (take-all (length out - at) (hexadecimal bytes) (omega arith)));
-      next = omega arith;
-    }
-
-returns : tie.Need-returns Inv-loop μ-loop
-returns c =
-    let put = c .before .before in
-    let e = put .before .before .before .before .before .before .before .before .before in
-    let out = now (e .args .out) in
-    let at = e .args .at in
-    let bytes = now (e .args .bytes) in
-    let text = hexadecimal bytes in
-    subst (λ (l : List ℕ). Puts out at text (at + 2 * length bytes) (take at out ++ (l ++ drop (length out - at) (drop at out)))) (sym (put .put-pairs .ensures))
-    (whole out bytes at (at + 2 * length bytes) (omega arith) (omega arith) refl)
-
-lesser-requires : tie.Need-lesser-requires Inv-loop μ-loop
+lesser-requires : tie.Need-lesser-requires
 lesser-requires c κs = search needs
 
-loop-holds : tie.Need-loop-holds Inv-loop μ-loop
-unfolding hexadecimal
-loop-holds c = let args = c .before .before .before .before .before .before .args in (omega arith, puts-none (now (args .out)) (args .at) (c .lesser .result) (c .lesser .ensures))
+sub-put-pairs : tie.Need-sub-put-pairs
+sub-put-pairs c = search needs
 
-shared-slice-read-put-pair : tie.Need-shared-slice-read-put-pair Inv-loop μ-loop
-shared-slice-read-put-pair c = omega arith
+part-put-pairs-start : tie.Need-part-put-pairs-start
+part-put-pairs-start c = search needs
 
-put-pair-requires : tie.Need-put-pair-requires Inv-loop μ-loop
+part-put-pairs-end : tie.Need-part-put-pairs-end
+part-put-pairs-end c = search needs
+
+slice-aggregate-put-pairs : tie.Need-slice-aggregate-put-pairs
+slice-aggregate-put-pairs c = simp length-take (omega arith)
+
+put-pairs-requires : tie.Need-put-pairs-requires
+put-pairs-requires c κs = (c .before .before .before .before .hex-table .ensures, simp (length-take, length-drop) (omega arith))
+
+mul-next : tie.Need-mul-next
+mul-next c = search needs
+
+add-next : tie.Need-add-next
+add-next c = search needs
+
+shared-slice-read-put-pair : tie.Need-shared-slice-read-put-pair
+shared-slice-read-put-pair c = search needs
+
+put-pair-requires : tie.Need-put-pair-requires
 put-pair-requires c κs = search needs
 
-add-i : tie.Need-add-i Inv-loop μ-loop
-add-i c = omega arith
+same-length : tie.Need-same-length
+same-length c = search needs
 
-loop-less : tie.Need-loop-less Inv-loop μ-loop
-loop-less c = omega arith
+-- the buffer, once the part that was lent is back
+module _ (out bytes : List ℕ) (at whole : ℕ) (inside : at < length out) (is : whole ≡ min (length bytes) ((length out - at) / 2)) where
+  abbrev pairs : List ℕ
+  pairs = hexadecimal (take whole bytes)
 
-loop-again : tie.Need-loop-again Inv-loop μ-loop
-loop-again c =
-    let at-loop = c .before .before .before .before .before .before .before in
-    let bytes = now (at-loop .before .before .before .before .before .before .before .args .bytes) in
-    let i = at-loop .loop .i in
-    let text : hexadecimal (take i bytes) ++ hexPair (getD bytes i 0) ≡ hexadecimal (take (i + 1) bytes) = rw add-one (sym (hex-more bytes i (omega arith))) in
-    (omega arith, puts-is (puts-both (at-loop .loop .inv .1) (c .before .before .put-pair .ensures)) text)
+  abbrev back : List ℕ → List ℕ
+  back lent = take at out ++ (lent ++ drop (length out - at) (drop at out))
 
-same-length-2 : tie.Need-same-length-2 Inv-loop μ-loop
-same-length-2 c = puts-length (c .before .loop .inv .1)
+  count : length pairs ≡ 2 * whole
+  count = length-hex (take whole bytes) ∙ ap (λ (n : ℕ). 2 * n) (length-take-le whole bytes (omega arith))
 
-returns-2 : tie.Need-returns-2 Inv-loop μ-loop
+  paired : (lent : List ℕ) → lent ≡ overwrite (part out at (length out - at)) 0 pairs → Puts out at pairs (at + 2 * whole) (back lent)
+  paired lent e =
+      let size : length (part out at (length out - at)) ≡ length out - at = simp (length-take, length-drop) (omega arith) in
+      record {
+        bytes =
+            ap back e ∙ overwrite-lent out pairs at (length out - at) (omega (arith, count))
+            ∙ ap (overwrite out at) (sym (take-all (length out - at) pairs (omega (arith, count))));
+        next = omega (arith, count);
+      }
+
+  -- all of them fit
+  all-put : {r : ℕ} {out′ : List ℕ} → length bytes ≤ whole → Puts out at pairs r out′ → Puts out at (hexadecimal bytes) r out′
+  all-put h p = puts-is p (ap hexadecimal (take-all whole bytes h))
+
+  -- the next one is put as far as it fits, and fills the buffer
+  one-cut : {k r : ℕ} {out′ out″ : List ℕ} → whole < length bytes → Puts out at pairs k out′ → Puts out′ k (hexPair (getD bytes whole 0)) r out″ → Puts out at (hexadecimal bytes) r out″
+  one-cut h p q =
+      let more : pairs ++ hexPair (getD bytes whole 0) ≡ hexadecimal (take (suc whole) bytes) = sym (hex-more bytes whole h) in
+      let size : length (hexadecimal (take (suc whole) bytes)) ≡ 2 * suc whole = length-hex (take (suc whole) bytes) ∙ ap (λ (n : ℕ). 2 * n) (length-take-le (suc whole) bytes h) in
+      puts-is (puts-cut (puts-is (puts-both p q) more) (hexadecimal (drop (suc whole) bytes)) (omega arith))
+      (sym (hex-append (take (suc whole) bytes) (drop (suc whole) bytes)) ∙ ap hexadecimal (take-append-drop (suc whole) bytes))
+
+returns-2 : tie.Need-returns-2
 returns-2 c =
-    let at-loop = c .before in
-    let bytes = now (at-loop .before .before .before .before .before .before .before .args .bytes) in
-    puts-is (at-loop .loop .inv .1) (ap hexadecimal (take-all (at-loop .loop .i) bytes (omega arith)))
+    let put = c .before .before in
+    let lent = put .before .before .before .before .before .before .before in
+    let lesser = lent .before .before .before .before in
+    let e = lesser .before .before .before .before .before in
+    let out = now (e .args .out) in
+    let bytes = now (e .args .bytes) in
+    let at = e .args .at in
+    let whole = lesser .lesser .result in
+    let inside : at < length out = omega arith in
+    one-cut out bytes at whole inside (lesser .lesser .ensures) (omega arith) (paired out bytes at whole inside (lesser .lesser .ensures) (lent .put-pairs .last .0) (lent .put-pairs .ensures)) (put .put-pair .ensures)
+
+same-length-2 : tie.Need-same-length-2
+same-length-2 c = search needs
+
+returns-3 : tie.Need-returns-3
+returns-3 c =
+    let lent = c .before .before .before in
+    let lesser = lent .before .before .before .before in
+    let e = lesser .before .before .before .before .before in
+    let out = now (e .args .out) in
+    let bytes = now (e .args .bytes) in
+    let at = e .args .at in
+    let whole = lesser .lesser .result in
+    let inside : at < length out = omega arith in
+    all-put out bytes at whole inside (lesser .lesser .ensures) (omega arith) (paired out bytes at whole inside (lesser .lesser .ensures) (lent .put-pairs .last .0) (lent .put-pairs .ensures))
 
 pub put-hex-spec : {M : Type 1} → statement M
 put-hex-spec =
     tie.close
     (tie.spec
-    Inv-loop
-    μ-loop
+    returns
     hex-table-requires
-    minus-requires
+    sub-lesser
+    lesser-requires
     sub-put-pairs
     part-put-pairs-start
     part-put-pairs-end
+    slice-aggregate-put-pairs
     put-pairs-requires
-    mul-result
-    add-result
-    same-length
-    returns
-    lesser-requires
-    loop-holds
+    mul-next
+    add-next
     shared-slice-read-put-pair
     put-pair-requires
-    add-i
-    loop-less
-    loop-again
+    same-length
+    returns-2
     same-length-2
-    returns-2)
+    returns-3)

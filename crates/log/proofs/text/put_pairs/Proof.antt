@@ -32,8 +32,14 @@ wide-requires c κs = search needs
 mul-place : tie.Need-mul-place Inv-loop μ-loop
 mul-place c = omega arith
 
-element-copy-out-out : tie.Need-element-copy-out-out Inv-loop μ-loop
-element-copy-out-out c = omega arith
+element-copy-out-high : tie.Need-element-copy-out-high Inv-loop μ-loop
+element-copy-out-high c = omega arith
+
+add-low : tie.Need-add-low Inv-loop μ-loop
+add-low c = omega arith
+
+element-copy-out-low : tie.Need-element-copy-out-low Inv-loop μ-loop
+element-copy-out-low c = omega arith
 
 mul-out : tie.Need-mul-out Inv-loop μ-loop
 mul-out c = omega arith
@@ -41,17 +47,11 @@ mul-out c = omega arith
 slice-write-out : tie.Need-slice-write-out Inv-loop μ-loop
 slice-write-out c = omega arith
 
-add-out : tie.Need-add-out Inv-loop μ-loop
-add-out c = omega arith
-
-element-copy-out-out-2 : tie.Need-element-copy-out-out-2 Inv-loop μ-loop
-element-copy-out-out-2 c = omega arith
-
 mul-out-2 : tie.Need-mul-out-2 Inv-loop μ-loop
 mul-out-2 c = omega arith
 
-add-out-2 : tie.Need-add-out-2 Inv-loop μ-loop
-add-out-2 c = omega arith
+add-out : tie.Need-add-out Inv-loop μ-loop
+add-out c = omega arith
 
 slice-write-out-2 : tie.Need-slice-write-out-2 Inv-loop μ-loop
 slice-write-out-2 c = simp length-set (omega arith)
@@ -98,13 +98,13 @@ put-pairs-spec =
     shared-slice-read-wide
     wide-requires
     mul-place
-    element-copy-out-out
+    element-copy-out-high
+    add-low
+    element-copy-out-low
     mul-out
     slice-write-out
-    add-out
-    element-copy-out-out-2
     mul-out-2
-    add-out-2
+    add-out
     slice-write-out-2
     add-i
     loop-less

@@ -1,4 +1,4 @@
--- `octets::copy_at` meets its contract: what `copy_front` leaves in the part from `at` on is what the whole is to hold.
+-- What `copy_front` leaves in the part from `at` on is what the whole is to hold.
 use Prim.Native.Nat.{ℕ, _-_}
 use native.Mathlib.Omega.{arith}
 use mathlib.Core.Path.{_≡_, refl, sym}

@@ -1,15 +1,12 @@
--- `octets::copy_front` meets its contract. The loop's invariant: the first i bytes are the source's, and the others as they were. The measure is what is left of the count.
-use Prim.Native.Nat.{ℕ, suc, _+_, _-_, _≤_, _<_}
-use native.Mathlib.Nat.{zero-add}
-use native.Mathlib.Numerals.{add-one}
+-- The loop's invariant: the first i bytes are the source's, and the others as they were. The measure is what is left of the count.
+use Prim.Native.Nat.{_-_, _≤_}
 use native.Mathlib.Omega.{arith}
-use mathlib.Core.Path.{_≡_, refl, subst}
-use mathlib.Core.List.{List}
+use mathlib.Core.Path.{_≡_, refl}
 use denote.Ref.{now}
-use lib.ListN.{length, getD, set, length-set}
-use lib.Seq.{paste, paste-suc}
+use lib.ListN.{length, length-set}
+use lib.Seq.{paste}
 use borrow.Author.Needs.{needs}
-use Rattle.octets.proofs.Overwrite.{overwrite-paste}
+use Rattle.octets.proofs.Overwrite.{overwrite-paste, paste-more}
 use Rattle.octets.proofs.copy.copy_front.Statement.{statement}
 use Rattle.octets.proofs.copy.copy_front.Tie as tie
 
@@ -37,19 +34,12 @@ add-i c = omega arith
 loop-less : tie.Need-loop-less Inv-loop μ-loop
 loop-less c = omega arith
 
--- a turn's store makes it a copy of one byte more
-store : (buffer source : List ℕ) (i : ℕ) → i < length buffer → i < length source → set (paste buffer 0 source i) i (getD source i 0) ≡ paste buffer 0 source (i + 1)
-store buffer source i room more =
-    let room′ : 0 + i < length buffer = omega arith in
-    rw add-one
-    (subst (λ (k : ℕ). set (paste buffer 0 source i) k (getD source i 0) ≡ paste buffer 0 source (suc i)) (zero-add i) (paste-suc buffer 0 source i 0 room′ more))
-
 loop-again : tie.Need-loop-again Inv-loop μ-loop
 loop-again c =
     let at-loop = c .before .before in
     let at-start = at-loop .before .before .before .before in (
       omega arith,
-      rw (at-loop .loop .inv .1) (store (now (at-start .args .buffer)) (now (at-start .args .source)) (at-loop .loop .i) (omega arith) (omega arith)),
+      rw (at-loop .loop .inv .1) (paste-more (now (at-start .args .buffer)) (now (at-start .args .source)) (at-loop .loop .i) 0 (omega arith) (omega arith)),
       simp length-set (omega arith),
     )
 

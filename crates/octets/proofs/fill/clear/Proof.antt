@@ -1,4 +1,4 @@
--- `octets::clear` meets its contract. The loop's invariant: the first i bytes are zero, and the others as they were. The measure is what is left of the length.
+-- The loop's invariant: the first i bytes are zero, and the others as they were. The measure is what is left of the length.
 use Prim.Native.Nat.{_≤_, _<_, _-_}
 use native.Mathlib.Omega.{arith}
 use mathlib.Core.Path.{_≡_, refl}

@@ -1,4 +1,4 @@
--- `octets::move_up` meets its contract. The loop's invariant: the bytes from k on stand in their new place, and all else is as it was. The measure is k.
+-- The loop's invariant: the bytes from k on stand in their new place, and all else is as it was. The measure is k.
 use Prim.Native.Nat.{ℕ, suc, _+_, _-_, _≤_, _<_, min}
 use native.Mathlib.Nat.{add-zero, sub-zero}
 use native.Mathlib.Omega.{arith}

@@ -1,24 +1,26 @@
--- Whether the entries still to come are zero is whether all unused ones are.
+-- The sum so far is zero, and the entries still to come are: that is whether all unused ones are.
 use native.Mathlib.Omega.{arith}
-use borrow.Author.Needs.{needs}
-use Prim.Native.Nat.{_-_}
-use mathlib.Core.Path.{_≡_, refl, ap, sym, _∙_}
+use Prim.Native.Nat.{_*_, _-_, _≤_}
+use mathlib.Core.Path.{_≡_, refl, _∙_}
+use mathlib.Core.List.{[]}
+use mathlib.Core.Bool.{_&&_, and-true}
+use lib.Dec.{eqb}
 use lib.ListN.{length, drop, length-map, drop-of-length-le}
 use Rattle.octets.specs.Lists.{all}
 use Rattle.state.specs.Limits.{recordLimit}
 use Rattle.state.specs.State.{isZero}
-use Rattle.state.proofs.Walk.{entry-used, entry-unused}
+use Rattle.state.proofs.Walk.{one-summed}
 use Rattle.state.proofs.CommandState.unused_zero.Statement.{statement}
 use Rattle.state.proofs.CommandState.unused_zero.Tie as tie
 
 abbrev Inv-loop : tie.InvT-loop
-Inv-loop self i₀ i = all isZero (drop i (self .records)) ≡ all isZero (drop (self .count) (self .records))
+Inv-loop self sum₀ i₀ sum i = ((eqb sum 0 && all isZero (drop i (self .records))) ≡ all isZero (drop (self .count) (self .records))) × (sum ≤ 131072 * i)
 
 abbrev μ-loop : tie.MeasureT-loop
-μ-loop self i₀ i = recordLimit - i
+μ-loop self sum₀ i₀ sum i = recordLimit - i
 
 loop-holds : tie.Need-loop-holds Inv-loop μ-loop
-loop-holds c = refl
+loop-holds c = (refl, omega arith)
 
 mul-r : tie.Need-mul-r Inv-loop μ-loop
 mul-r c = omega arith
@@ -26,25 +28,17 @@ mul-r c = omega arith
 element-copy-out-r : tie.Need-element-copy-out-r Inv-loop μ-loop
 element-copy-out-r c = omega arith
 
-wide-requires : tie.Need-wide-requires Inv-loop μ-loop
-wide-requires c κs = search needs
+cast-sum : tie.Need-cast-sum Inv-loop μ-loop
+cast-sum c = omega arith
 
-returns : tie.Need-returns Inv-loop μ-loop
-returns c =
-    let p = c .before .before .before .before .before .args .t1 in
-    let i = c .before .before .before .before .loop .i in
-    let size : length (p .records) ≡ recordLimit = simp length-map at (c .before .before .before .before .before .good .0 .1 .1 .1 .1 .0 .1 .0 .1) in
-    entry-used (p .records) i (omega arith) (c .before .before .before .before .loop .inv) (λ a b. omega arith)
+add-sum : tie.Need-add-sum Inv-loop μ-loop
+add-sum c = omega arith
 
-wide-requires-2 : tie.Need-wide-requires-2 Inv-loop μ-loop
-wide-requires-2 c κs = search needs
+cast-sum-2 : tie.Need-cast-sum-2 Inv-loop μ-loop
+cast-sum-2 c = omega arith
 
-returns-2 : tie.Need-returns-2 Inv-loop μ-loop
-returns-2 c =
-    let p = c .before .before .before .before .before .before .before .args .t1 in
-    let i = c .before .before .before .before .before .before .loop .i in
-    let size : length (p .records) ≡ recordLimit = simp length-map at (c .before .before .before .before .before .before .before .good .0 .1 .1 .1 .1 .0 .1 .0 .1) in
-    entry-used (p .records) i (omega arith) (c .before .before .before .before .before .before .loop .inv) (λ a b. omega arith)
+add-sum-2 : tie.Need-add-sum-2 Inv-loop μ-loop
+add-sum-2 c = omega arith
 
 add-i : tie.Need-add-i Inv-loop μ-loop
 add-i c = omega arith
@@ -54,17 +48,19 @@ loop-less c = omega arith
 
 loop-again : tie.Need-loop-again Inv-loop μ-loop
 loop-again c =
-    let p = c .before .before .before .before .before .before .before .args .t1 in
-    let i = c .before .before .before .before .before .before .loop .i in
-    let size : length (p .records) ≡ recordLimit = simp length-map at (c .before .before .before .before .before .before .before .good .0 .1 .1 .1 .1 .0 .1 .0 .1) in
-    entry-unused (p .records) i (omega arith) (c .before .before .before .before .before .before .loop .inv) (omega arith) (omega arith)
+    let at-loop = c .before .before .before .before in
+    let p = at-loop .before .args .t1 in
+    let size : length (p .records) ≡ recordLimit = simp length-map at (at-loop .before .good .0 .1 .1 .1 .1 .0 .1 .0 .1) in
+    (one-summed (p .records) (at-loop .loop .i) (at-loop .loop .sum) (omega arith) ∙ at-loop .loop .inv .0, omega arith)
 
-returns-3 : tie.Need-returns-3 Inv-loop μ-loop
-returns-3 c =
-    let p = c .before .before .args .t1 in
-    let i = c .before .loop .i in
-    let size : length (p .records) ≡ recordLimit = simp length-map at (c .before .before .good .0 .1 .1 .1 .1 .0 .1 .0 .1) in
-    sym (sym (c .before .loop .inv) ∙ ap (all isZero) (drop-of-length-le (p .records) {i = i} (omega arith)) ∙ unfold all in refl)
+returns : tie.Need-returns Inv-loop μ-loop
+unfolding all
+returns c =
+    let at-loop = c .before in
+    let p = at-loop .before .args .t1 in
+    let size : length (p .records) ≡ recordLimit = simp length-map at (at-loop .before .good .0 .1 .1 .1 .1 .0 .1 .0 .1) in
+    let none : drop (at-loop .loop .i) (p .records) ≡ [] = drop-of-length-le (p .records) {i = at-loop .loop .i} (omega arith) in
+    rw (none, and-true) at (at-loop .loop .inv .0)
 
 pub unused-zero-spec : {M : Type 1} → statement M
 unused-zero-spec =
@@ -75,11 +71,11 @@ unused-zero-spec =
     loop-holds
     mul-r
     element-copy-out-r
-    wide-requires
-    returns
-    wide-requires-2
-    returns-2
+    cast-sum
+    add-sum
+    cast-sum-2
+    add-sum-2
     add-i
     loop-less
     loop-again
-    returns-3)
+    returns)

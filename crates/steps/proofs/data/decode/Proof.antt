@@ -5,9 +5,9 @@ use mathlib.Core.Path.{_≡_, refl, sym, _∙_}
 use denote.Ref.{now}
 use lib.ListN.{length, length-set}
 use lib.Seq.{paste}
-use Rattle.octets.proofs.Overwrite.{overwrite-paste}
+use Rattle.octets.proofs.Overwrite.{overwrite-paste, paste-more}
 use Rattle.steps.specs.Fields.{bytesOf}
-use Rattle.steps.proofs.Bytes.{bytes-length, bytes-at, store}
+use Rattle.steps.proofs.Bytes.{bytes-length, bytes-at}
 use borrow.Author.Needs.{needs}
 use Rattle.steps.proofs.data.decode.Statement.{statement}
 use Rattle.steps.proofs.data.decode.Tie as tie
@@ -60,7 +60,7 @@ loop-again c =
     let i = l .loop .i in
     let byte = c .pair-value .ensures ∙ sym (bytes-at word i (omega arith)) in (
       omega arith,
-      rw (l .loop .inv .1, byte) (store buffer (bytesOf word) i (omega arith) (omega (arith, bytes-length word))),
+      rw (l .loop .inv .1, byte) (paste-more buffer (bytesOf word) i 0 (omega arith) (omega (arith, bytes-length word))),
       simp length-set (omega arith),
     )
 
