@@ -83,7 +83,7 @@ fn refuse(state: CacheState, why: Refusal) -> Fetched
 
 // A span of a byte or more: there must be room for what it brings. It is held, and then it lies in one record, side by side.
 fn fetch_span(
-    mut state: CacheState,
+    state: CacheState,
     store: &mut [u8],
     window: &[u8],
     destination: &mut [u8],
@@ -108,13 +108,14 @@ fn fetch_span(
     }
     part::hold(store, command, window, held, m, fresh, behind);
     part::deliver(store, command, join.place, size, destination);
-    state.commands[command] = joined;
+    let mut next = state;
+    next.commands[command] = joined;
     Fetched {
         answer: FetchAnswer::Done {
             fresh,
             replayed: size - fresh,
         },
-        state,
+        state: next,
     }
 }
 

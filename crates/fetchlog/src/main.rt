@@ -8,9 +8,10 @@ use state::CacheState;
 // One byte more than a journal may have, which tells that there are more.
 const INPUT: usize = journal::MOST + 1;
 
-// The window of the log program, and room for the longest line.
+// The window of the log program.
 const WINDOW: usize = 16384;
 
+// Room for the longest line.
 const LINE: usize = 8448;
 
 fn print_log(input: &[u8]) {

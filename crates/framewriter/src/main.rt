@@ -12,9 +12,10 @@ ghost use mathlib.Core.Path.{_≡_};
 ghost use Prim.Native.Nat.{_≤_};
 ghost use lib.ListN.{length};
 
-// The most bytes of an input, and one more, which tells that there are more.
+// The most bytes of an input.
 const MOST: usize = 1048576;
 
+// One more, which tells that there are more.
 const INPUT: usize = MOST + 1;
 
 // Room for the longest frame.

@@ -42,15 +42,15 @@ pub struct Limits {
 
 impl CacheState {
     pub const COMMANDS: usize = 8;
-    // For each command, its most records and its most distinct held bytes.
+    // The most records of a command.
     pub const RECORDS: usize = 64;
-
+    // The most distinct bytes that a command holds.
     pub const HELD: usize = 4096;
     // The most bytes of one fetch or write.
     pub const TRANSFER: usize = 4096;
-    // The longest window, and the one length of the store.
+    // The longest window.
     pub const WINDOW: usize = 65536;
-
+    // The one length of the store.
     pub const STORE: usize = 32768;
 
     // The constants are those of the definitions.

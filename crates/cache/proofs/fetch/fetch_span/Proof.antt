@@ -145,8 +145,8 @@ mul-joined c = omega (arith, admitted (c .before .before .before .before .before
 element-set-from-joined : tie.Need-element-set-from-joined
 element-set-from-joined c = admitted (c .before .before .before .before .before .before .before .before .before .before .before .before .before .before .before .before .before .before .before .before .before) .command
 
-sub-t19 : tie.Need-sub-t19
-sub-t19 c = few-fresh (c .before .before .before .before .before .before .before .before .before .before .before .before .before .before)
+sub-t20 : tie.Need-sub-t20
+sub-t20 c = few-fresh (c .before .before .before .before .before .before .before .before .before .before .before .before .before .before)
 
 same-length : tie.Need-same-length
 same-length c = search needs
@@ -183,7 +183,7 @@ fetch-span-spec =
     deliver-requires
     mul-joined
     element-set-from-joined
-    sub-t19
+    sub-t20
     same-length
     same-length-2
     returns-3)
