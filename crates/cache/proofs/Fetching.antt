@@ -59,18 +59,18 @@ module _ (s : CacheState) (storeLen windowLen destLen c a n : ℕ) (e : accepted
       }
 
   -- then 23 and 24 decide
-  pub too-many-bytes : heldLimit < total (recordsOf s c) + fresh (recordsOf s c) a n → fetchSays s storeLen windowLen destLen c a n ≡ refused (number TooManyBytes)
+  too-many-bytes : heldLimit < total (recordsOf s c) + fresh (recordsOf s c) a n → fetchSays s storeLen windowLen destLen c a n ≡ refused (number TooManyBytes)
   unfolding fetchSays
   too-many-bytes h = verdict-passes _ _ _ (admitChecks s storeLen windowLen destLen c a n) e ∙ sym (verdict-stops _ _ _ _ (lt-ltb _ _ h))
 
   module _ (room : total (recordsOf s c) + fresh (recordsOf s c) a n ≤ heldLimit) where
-    pub too-many-records : recordLimit < length (joined (recordsOf s c) a n) → fetchSays s storeLen windowLen destLen c a n ≡ refused (number TooManyRecords)
+    too-many-records : recordLimit < length (joined (recordsOf s c) a n) → fetchSays s storeLen windowLen destLen c a n ≡ refused (number TooManyRecords)
     unfolding fetchSays
     too-many-records h =
         verdict-passes _ _ _ (admitChecks s storeLen windowLen destLen c a n) e
         ∙ sym (verdict-goes-on _ _ _ _ (le-ltb _ _ room) (verdict-stops _ _ _ _ (lt-ltb _ _ h)))
 
-    pub taken : length (joined (recordsOf s c) a n) ≤ recordLimit
+    taken : length (joined (recordsOf s c) a n) ≤ recordLimit
         → fetchSays s storeLen windowLen destLen c a n ≡ replied (fresh (recordsOf s c) a n ∷ (n - fresh (recordsOf s c) a n) ∷ [])
     unfolding fetchSays
     taken few =
@@ -84,7 +84,7 @@ module _ (s : CacheState) (store window dest : List ℕ) (c a n : ℕ) where
   abbrev rs : List Record
   rs = recordsOf s c
 
-  pub refusing : (why : Refusal) → says ≡ refused (number why) → Fetches s store window dest c a n (record { answer = Refused why; state = s }) store dest
+  refusing : (why : Refusal) → says ≡ refused (number why) → Fetches s store window dest c a n (record { answer = Refused why; state = s }) store dest
   unfolding accepted fetchState fetchStore fetchDest
   refusing why is =
       let no : accepted says ≡ false = ap accepted is in
@@ -96,7 +96,7 @@ module _ (s : CacheState) (store window dest : List ℕ) (c a n : ℕ) where
   unfolding fetchSays
   barred-fetch why is = refusing why (verdict-bars (admitChecks s (length store) (length window) (length dest) c a n) _ [] _ (number why) is)
 
-  pub accepting :
+  accepting :
       (s′ : CacheState) (store′ dest′ : List ℕ) (f : ℕ) → says ≡ replied (f ∷ (n - f) ∷ [])
       → s′ ≡ withCommand s c (open-with (joined rs a n))
       → store′ ≡ overwrite store (partStart c) (map (sees rs c store window) (addresses (joined rs a n)))
@@ -150,7 +150,7 @@ module _ (f : ℕ → ℕ) (rs : List Record) (store : List ℕ) (k a n : ℕ) (
   along : (i : ℕ) → i < n → place rs′ (a + i) ≡ place rs′ a + i
   along i h = place-along 0 rs′ a i up′ (λ j g. held-there j (omega arith))
 
-  pub span-below : 0 < n → place rs′ a + n ≤ total rs′
+  span-below : 0 < n → place rs′ a + n ≤ total rs′
   span-below some =
       let last : n - 1 < n = omega arith in
       omega (arith, along (n - 1) last, place-below 0 rs′ (a + (n - 1)) up′ (held-there (n - 1) last))
@@ -189,7 +189,7 @@ module _ (s : CacheState) (store window dest : List ℕ) (c a n : ℕ) (e : acce
   judged : Judged (commandOf s c) a n j
   judged = subst (λ (k : ℕ). Judged (commandOf s c) a k j) is-suc (J .judged (n - 1) (ap (λ (k : ℕ). a + k) (sym is-suc)) (each-holds s c (A .whole)))
 
-  pub sum : j .meeting .below + j .meeting .held + behind ≡ total (recordsOf s c)
+  sum : j .meeting .below + j .meeting .held + behind ≡ total (recordsOf s c)
   sum =
       let rs = recordsOf s c in
       omega (arith, judged .bytes, is, ap total (take-append-drop (j .meeting .last) rs), total-append (take (j .meeting .last) rs) (drop (j .meeting .last) rs))

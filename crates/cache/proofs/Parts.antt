@@ -21,7 +21,7 @@ use Rattle.cache.specs.Hold.{seesIn, repacked}
 
 -- a command sees its bytes in its part as in the store
 module _ (rs : List Record) (c : ℕ) (store window : List ℕ) (up : ascending 0 rs ≡ true) (small : total rs ≤ heldLimit) where
-  pub sees-part : seesIn rs (part store (partStart c) heldLimit) window ≡ sees rs c store window
+  sees-part : seesIn rs (part store (partStart c) heldLimit) window ≡ sees rs c store window
   sees-part = fun-ext λ x. go x (held rs x) refl
     where
       go : (x : ℕ) (b : Bool) → held rs x ≡ b
@@ -33,7 +33,7 @@ module _ (rs : List Record) (c : ℕ) (store window : List ℕ) (up : ascending 
 
 -- and what is packed in its part is packed in the store
 module _ (rs : List Record) (m : Meeting) (fresh c : ℕ) (store window : List ℕ) (C : Cut rs m fresh (length window)) (room : total rs + fresh ≤ heldLimit) (inside : partStart c + heldLimit ≤ length store) where
-  pub total-replaced : total (replaced rs m) ≡ total rs + fresh
+  total-replaced : total (replaced rs m) ≡ total rs + fresh
   unfolding total
   total-replaced =
       total-append (take (m .first) rs) (record { start = m .low; len = m .high - m .low } ∷ drop (m .last) rs)

@@ -63,7 +63,7 @@ module _ (m : Machine) (c : ℕ) where
 -- Each replacement fits.
 
 module _ (m : Machine) (c : ℕ) (R : Ready (m .state) (length (m .store)) c) (next : CommandState) (h : commandHolds next ≡ true) (k : length (next .records) ≡ recordLimit) where
-  pub zeros-fit : Fits m c next zeros
+  zeros-fit : Fits m c next zeros
   zeros-fit = record {
     command = R .command;
     size = R .size;

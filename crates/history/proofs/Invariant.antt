@@ -33,14 +33,14 @@ pub whole-replaced : {m : Machine} {c : ℕ} {next : CommandState} {bytes : List
 whole-replaced {m} {c} {next} F W =
     record { whole = holds-with (m .state) c next (W .whole) (F .sound); shape = shape-with (m .state) c next (W .shape) (F .shaped) }
 
-pub whole-after : (m : Machine) (p : Call) → Whole (m .state) → Whole (after m p .state)
+whole-after : (m : Machine) (p : Call) → Whole (m .state) → Whole (after m p .state)
 whole-after m p W = go (effect m p)
   where
     go : Effect m p → Whole (after m p .state)
     go (nothing e) = subst (λ (j : Machine). Whole (j .state)) (sym e) W
     go (replaces c next bytes h F e) = subst (λ (j : Machine). Whole (j .state)) (sym e) (whole-replaced F W)
 
-pub whole-ran : (m : Machine) (ps : List Call) → Whole (m .state) → Whole (ran m ps .state)
+whole-ran : (m : Machine) (ps : List Call) → Whole (m .state) → Whole (ran m ps .state)
 unfolding ran
 whole-ran m [] W = W
 whole-ran m (p ∷ ps) W = whole-ran (after m p) ps (whole-after m p W)

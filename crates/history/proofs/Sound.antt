@@ -78,7 +78,7 @@ module _ (m : Machine) (c : ℕ) (next : CommandState) (bytes : List ℕ) (F : F
           subst (λ (p : CommandState). Known p (replaced m c next bytes .store) mem′ d x) (sym (command-other (m .state) c next d apart))
           (λ o. others d x apart ∙ S .known d x o ∙ sym (stored-other d x apart))
 
-  pub sound-replaced : Sound (replaced m c next bytes) mem′
+  sound-replaced : Sound (replaced m c next bytes) mem′
   sound-replaced = record { state = whole-replaced F (S .state); known = known-replaced; size = λ d o. length-replaced F ∙ F .size }
 
 -- Fetch: what the command holds then is what its memory then has.

@@ -19,7 +19,7 @@ use Rattle.journal.specs.Step.{callOf, windowLeft, destLeft, Makes}
 use Rattle.journal.specs.Frame.{stepOf, isReadable, takenUp, stepRead, Device, frameCall, frameSays, frameLeaves, frameDelivers, Carries}
 
 -- the step of a step's numbers is the step
-pub step-of : (s : Step) → stepOf (stepNumbers s) ≡ s
+step-of : (s : Step) → stepOf (stepNumbers s) ≡ s
 unfolding stepOf
 step-of (Begin c) = refl
 step-of (Fetch c a n) = refl

@@ -51,12 +51,12 @@ taken-most frame = go (isReadable frame) refl
 -- One frame of a journal
 
 module _ (k : ℕ) (d : Device) where
-  pub entries-none : (k : ℕ) → entriesIn k d [] ≡ []
+  entries-none : (k : ℕ) → entriesIn k d [] ≡ []
   unfolding entriesIn
   entries-none zero = refl
   entries-none (suc k) = refl
 
-  pub left-none : (k : ℕ) → leftIn k d [] ≡ d
+  left-none : (k : ℕ) → leftIn k d [] ≡ d
   unfolding leftIn
   left-none zero = refl
   left-none (suc k) = refl

@@ -51,12 +51,12 @@ pub table-pairs : TablePairs
 table-pairs byte below = ap (take 2) (table-from byte below)
 
 module _ (byte : ℕ) (below : byte < 256) where
-  pub table-high : getD hexTable (2 * byte) 0 ≡ hexDigit (byte / 16)
+  table-high : getD hexTable (2 * byte) 0 ≡ hexDigit (byte / 16)
   table-high =
       let place : 2 * byte ≡ 2 * byte + 0 = omega arith in
       ap (λ (n : ℕ). getD hexTable n 0) place ∙ sym (getD-drop (2 * byte) hexTable 0 0) ∙ ap (λ (l : List ℕ). getD l 0 0) (table-from byte below)
 
-  pub table-low : getD hexTable (2 * byte + 1) 0 ≡ hexDigit (byte % 16)
+  table-low : getD hexTable (2 * byte + 1) 0 ≡ hexDigit (byte % 16)
   table-low = sym (getD-drop (2 * byte) hexTable 1 0) ∙ ap (λ (l : List ℕ). getD l 1 0) (table-from byte below)
 
 -- so the characters at a byte's two places are its pair

@@ -93,7 +93,7 @@ fresh-shape = refl
 pub eight : (s : CacheState) → hasShape s ≡ true → length (s .commands) ≡ commandLimit
 eight s h = eqb-true _ _ (and-left (eqb (length (s .commands)) commandLimit) _ h)
 
-pub sixty-four : (s : CacheState) (c : ℕ) → hasShape s ≡ true → length (commandOf s c .records) ≡ recordLimit
+sixty-four : (s : CacheState) (c : ℕ) → hasShape s ≡ true → length (commandOf s c .records) ≡ recordLimit
 sixty-four s c h =
     eqb-true _ _ (all-at (λ p. eqb (length (p .records)) recordLimit) (s .commands) c closed (and-right (eqb (length (s .commands)) commandLimit) _ h) refl)
 

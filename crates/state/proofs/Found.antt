@@ -117,7 +117,7 @@ module _ (a e : ℕ) (wide : a < e) where
       go u (meets j k) ih = meets-first r rs m j k (u .fits) (ih (widened r m) k)
       go u (after k) ih = rw (search-stops a e r rs m k) (split-stop (r .start) (r ∷ rs) m (ascending-from (r .start) u (omega arith)) k, refl)
 
-  pub split : (lo : ℕ) (rs : List Record) (m : Meeting) → ascending lo rs ≡ true → Split a e rs m (searched a e rs m)
+  split : (lo : ℕ) (rs : List Record) (m : Meeting) → ascending lo rs ≡ true → Split a e rs m (searched a e rs m)
   split lo [] m up = split-none m
   split lo (r ∷ rs) m up = let u = ascends lo r rs up in go u (side a e r) (λ n. split (past r) rs n (u .rest))
     where

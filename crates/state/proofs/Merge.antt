@@ -104,7 +104,7 @@ module _ (a e : ℕ) (wide : a < e) where
   merged-meets r rs l h j k = rw (lt-leb (past r) a k, lt-ltb (r .start) e j, lt-ltb a (past r) k, lt-leb e (r .start) j, lowest-min, highest-max)
 
   -- a record after the span stays, behind the union
-  pub merged-after : (r : Record) (rs : List Record) (l h : ℕ) → e ≤ r .start
+  merged-after : (r : Record) (rs : List Record) (l h : ℕ) → e ≤ r .start
       → merged a e (r ∷ rs) l h ≡ earlier a rs ++ between (lowest l (met a e rs)) (highest h (met a e rs)) ∷ r ∷ later e rs
   unfolding merged keep
   merged-after r rs l h k = rw (lt-leb (past r) a (omega arith), le-ltb (r .start) e k, le-leb e (r .start) k)

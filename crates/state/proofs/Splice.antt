@@ -49,7 +49,7 @@ module _ (p : CommandState) (m : Meeting) where
 
   module _ (size : length (p .records) ≡ recordLimit) (k : ℕ) (most : k ≤ recordLimit) where
     -- where the first k entries stay as they are, they are written already
-    pub front-written : ((i : ℕ) → i < k → entryAfter (p .records) m i ≡ getD (p .records) i noRecord) → p .records ≡ written p m k
+    front-written : ((i : ℕ) → i < k → entryAfter (p .records) m i ≡ getD (p .records) i noRecord) → p .records ≡ written p m k
     front-written same =
         sym (written-is k ∙ ap (λ (l : List Record). l ++ drop k (p .records)) (ext-getD noRecord (take k (wanted p m)) (take k (p .records)) sizes alike) ∙ take-append-drop k (p .records))
       where
@@ -79,7 +79,7 @@ module _ (p : CommandState) (m : Meeting) where
   none-written size most = front-written size (m .first) most (λ i h. entry-before (p .records) m i h)
 
   module _ (size : length (p .records) ≡ recordLimit) (entries : List Record) (k : ℕ) (so-far : entries ≡ written p m k) where
-    pub one-written : (r : Record) → k < recordLimit → r ≡ entryAfter (p .records) m k → set entries k r ≡ written p m (k + 1)
+    one-written : (r : Record) → k < recordLimit → r ≡ entryAfter (p .records) m k → set entries k r ≡ written p m (k + 1)
     one-written r h e =
         ap₂ (λ (l : List Record) (t : Record). set l k t) so-far (e ∙ sym (wanted-at k h))
         ∙ paste-more (p .records) (wanted p m) k noRecord (omega arith) (omega (arith, wanted-size))

@@ -108,7 +108,7 @@ impl CommandState {
         m
     }
 
-    // The command with the union in the place of the records that were met.
+    // The command with the union in the place of the records that were met. Behind the union, entry k is the one before `at`.
     fn spliced(self, m: Meeting) -> CommandState
         requires { ⌜ (m .first ≤ m .last) × (m .last ≤ length (recordsIn self)) ⌝ }
         ensures { λ r. ⌜ r ≡ spliced self m ⌝ }

@@ -10,12 +10,12 @@ use Rattle.log.specs.Text.{readOn}
 use Rattle.steps.specs.Fields.{most}
 
 -- more digits make no number smaller
-pub grows : (n : ℕ) (digits : List ℕ) → n ≤ readOn n digits
+grows : (n : ℕ) (digits : List ℕ) → n ≤ readOn n digits
 unfolding readOn
 grows n [] = omega arith
 grows n (d ∷ digits) = omega (arith, grows (n * 10 + (d - 48)) digits)
 
-pub held : (n : ℕ) (digits : List ℕ) → min most (readOn (min most n) digits) ≡ min most (readOn n digits)
+held : (n : ℕ) (digits : List ℕ) → min most (readOn (min most n) digits) ≡ min most (readOn n digits)
 held n digits = go (leb n most) refl
   where
     go : (t : Bool) → leb n most ≡ t → min most (readOn (min most n) digits) ≡ min most (readOn n digits)

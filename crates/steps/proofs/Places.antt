@@ -23,7 +23,7 @@ either true t f g h next p q r = p
 either false true f g h next p q r = q
 either false false f g h next p q r = r
 
-pub number-next : (word : List ℕ) (next : ℕ) → numberOf word next .next ≡ next
+number-next : (word : List ℕ) (next : ℕ) → numberOf word next .next ≡ next
 unfolding numberOf
 number-next word next =
     either (eqb (length word) 0) (ltb (place NotDecimal word 0) (length word)) (field 0 next FieldMissing) (field 0 next NotANumber) (field (min most (valueOf word)) next Sound) next

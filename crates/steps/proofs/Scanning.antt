@@ -11,7 +11,7 @@ use Rattle.steps.specs.Scan.{before, stops, place}
 
 module _ {A : Type 0} (test : A → Bool) where
   -- it goes no farther than the end
-  pub before-most : (xs : List A) → before test xs ≤ length xs
+  before-most : (xs : List A) → before test xs ≤ length xs
   unfolding before
   before-most [] = omega arith
   before-most (x ∷ xs) = go (test x) (before-most xs)
