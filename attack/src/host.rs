@@ -1,19 +1,20 @@
 //! The host: a window in memory that a second thread writes all the time.
 //!
 //! What that means for the boundary. The library is proved for a window that
-//! nobody writes during a call: the host puts there what it likes before each
-//! one. This program breaks that on purpose, so a run is outside the proof. In
-//! the code one function reads the window, into the store, and every fetch is
-//! delivered from the store: what that copy left is what is served until the
-//! command ends, however often the copy itself looked. But its loads are plain
-//! ones, and a compiler that takes the window to be unshared may put a second
-//! load of it in the place of a load of the store. So whoever lends a live
-//! window has duties: it is raw memory and never a Rust reference, since a
-//! reference promises that nobody writes; the compiled code that is shipped is
-//! shown to deliver from the store alone, by its listing or by a trial such as
-//! this; and where that is not enough, the boundary copies what a call may read
-//! by volatile loads and lends the copy. The store and the destination must be
-//! out of the host's reach.
+//! nobody writes during a call: its promises speak of the bytes that are there
+//! at the call, and the host puts there what it likes before each one. This
+//! program breaks that on purpose: a fetch whose bytes change meanwhile is
+//! outside the proof. In the code one function reads the window, into the
+//! store, and every fetch is delivered from the store: what that copy left is
+//! what is served until the command ends, however often the copy itself
+//! looked. But its loads are plain ones, and a compiler that takes the window
+//! to be unshared may put a second load of it in the place of a load of the
+//! store. So whoever lends a live window has duties: it is raw memory and never
+//! a Rust reference, since a reference promises that nobody writes; the
+//! compiled code that is shipped is shown to deliver from the store alone, by
+//! its listing or by a trial such as this; and where that is not enough, the
+//! boundary copies what a call may read by volatile loads and lends the copy.
+//! The state, the store and the destination must be out of the host's reach.
 
 use std::ptr;
 use std::sync::atomic::{AtomicBool, AtomicU64, Ordering};

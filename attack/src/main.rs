@@ -2,7 +2,7 @@
 //! and its use.
 //!
 //! - [`host`]: the window, and the thread that writes it.
-//! - [`device`]: the journals, run through the proved library.
+//! - [`device`]: the calls, in the proved library.
 //! - [`race`]: the attack through the cache and around it.
 //! - [`pages`]: held spans while the window cannot be read.
 
@@ -20,7 +20,8 @@ usage: attack [--runs N]
 A second thread writes 4 and 40 over the count of a retire list as fast as it
 can. Each of N runs (100000) checks the count and then uses the list in three
 ways: by two plain reads, by two commands of the cache, and by one command.
-Then a span is fetched while the window cannot be read.
+There are more runs if the counts differ too seldom in the first two ways. Then
+a span is fetched while the window cannot be read.
 
 Status: 0 if checked and used count differ at times in the first two ways and
 never in the third, and held spans are served without the window; else 1. 2 if

@@ -4,12 +4,15 @@ use std::fmt;
 use std::hint::black_box;
 use std::time::{Duration, Instant};
 
-use crate::device::{self, Device};
-use crate::host::SharedWindow;
+use crate::device::Device;
+use crate::host::{SharedWindow, COUNTS};
 
-/// Where neither way around the cache has shown the attack, so many times as
-/// many runs are made before it is given up.
-const PATIENCE: u64 = 10;
+/// The runs go on until the attack has worked so often in each way around the
+/// cache, since through the cache it then had as many chances,
+const OFTEN: u64 = 20;
+
+/// or until so much time has passed.
+const PATIENCE: Duration = Duration::from_secs(20);
 
 /// What was seen.
 #[derive(Default)]
@@ -35,21 +38,20 @@ impl Seen {
         self.plain > 0 && self.two_commands > 0 && self.cache == 0
     }
 
-    /// Whether both ways around the cache have shown the attack.
-    fn shows_it(&self) -> bool {
-        self.plain > 0 && self.two_commands > 0
+    /// Whether the attack has worked often in both ways around the cache.
+    fn worked_often(&self) -> bool {
+        self.plain >= OFTEN && self.two_commands >= OFTEN
     }
 }
 
-/// Makes so many runs under attack.
+/// Makes at least so many runs under attack.
 pub fn run(runs: u64) -> Seen {
     let window = SharedWindow::new();
     let distance = turns_of_a_fetch(window);
     let (seen, writes) = window.attacked(|| {
         let mut trial = Trial::new(window, distance);
-        while trial.seen.runs < runs
-            || (!trial.seen.shows_it() && trial.seen.runs < PATIENCE * runs)
-        {
+        let start = Instant::now();
+        while trial.seen.runs < runs || (!trial.seen.worked_often() && start.elapsed() < PATIENCE) {
             trial.once();
         }
         trial.seen
@@ -60,12 +62,10 @@ pub fn run(runs: u64) -> Seen {
     }
 }
 
-/// The device with its journals, and what was seen so far.
+/// The device, and what was seen so far.
 struct Trial {
     window: SharedWindow,
     device: Device,
-    one_command: Vec<u8>,
-    two_commands: Vec<u8>,
     seen: Seen,
 }
 
@@ -73,9 +73,7 @@ impl Trial {
     fn new(window: SharedWindow, distance: u64) -> Trial {
         Trial {
             window,
-            device: Device::new(),
-            one_command: device::one_command(),
-            two_commands: device::two_commands(),
+            device: Device::new(window.raw()),
             seen: Seen {
                 distance,
                 ..Seen::default()
@@ -89,23 +87,13 @@ impl Trial {
         let checked = self.window.read_count();
         idle(self.seen.distance);
         self.seen.plain += u64::from(self.window.read_count() != checked);
-        let [checked, used] = counts(&mut self.device, &self.two_commands, self.window);
+        let [checked, used] = self.device.two_commands();
         self.seen.two_commands += u64::from(checked != used);
-        let [checked, used] = counts(&mut self.device, &self.one_command, self.window);
+        let [checked, used] = self.device.one_command();
         self.seen.cache += u64::from(checked != used);
-        self.seen.small += u64::from(used == *b"04");
-        self.seen.large += u64::from(used == *b"28");
+        self.seen.small += u64::from(used == COUNTS[0]);
+        self.seen.large += u64::from(used == COUNTS[1]);
     }
-}
-
-/// The count in the first and in the second fetch of a journal.
-fn counts(device: &mut Device, journal: &[u8], window: SharedWindow) -> [[u8; 2]; 2] {
-    let log = device.run(journal, window.raw());
-    let mut fetched = device::first_bytes(log);
-    [(); 2].map(|()| {
-        let digits = fetched.next().expect("a log has both fetches");
-        [digits[0], digits[1]]
-    })
 }
 
 /// Work that touches no memory.
@@ -115,14 +103,13 @@ fn idle(turns: u64) {
     }
 }
 
-/// So many turns of idle work take as long as the second fetch of a journal:
+/// So many turns of idle work take as long as the second fetch of a command:
 /// the runs with it less those without it.
 fn turns_of_a_fetch(window: SharedWindow) -> u64 {
     const TURNS: u64 = 2_000;
-    let mut device = Device::new();
-    let (with, without) = (device::one_command(), device::check_only());
-    let with = quickest(|| _ = device.run(&with, window.raw()));
-    let without = quickest(|| _ = device.run(&without, window.raw()));
+    let mut device = Device::new(window.raw());
+    let with = quickest(|| _ = black_box(device.one_command()));
+    let without = quickest(|| _ = black_box(device.check_only()));
     let turns = quickest(|| idle(TURNS)).as_nanos().max(1);
     (with.saturating_sub(without).as_nanos() * u128::from(TURNS) / turns) as u64
 }

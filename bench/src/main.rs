@@ -1,38 +1,45 @@
-//! `bench`: what a frame costs in the proved library, in a plain program of
-//! the same rules, and as a copy of the bytes that it moves.
+//! `bench`: what calls and frames cost in the proved library and in others.
 //!
 //! - [`cases`]: what is measured.
-//! - [`machine`]: the buffers, and the programs on them.
-//! - [`agreement`]: that both programs do the same.
-//! - [`moved`]: the bytes that a case moves.
-//! - [`counts`]: instructions; [`times`]: nanoseconds.
-//! - [`table`], [`plot`], [`document`]: the figures written down.
+//! - [`call`], [`answer`]: calls, and what is answered.
+//! - [`programs`]: the programs that calls are made on.
+//! - [`memory`], [`buffer`]: their buffers.
+//! - [`work`]: a case as a program does it.
+//! - [`agreement`]: that all programs do the same.
+//! - [`counts`]: instructions; [`times`]: nanoseconds; [`stack`]: bytes of it.
+//! - [`host`]: what it is measured on.
+//! - [`table`], [`summary`], [`plot`], [`document`]: the figures written down.
 
 mod agreement;
+mod answer;
+mod buffer;
+mod call;
 mod cases;
 mod counts;
 mod document;
-mod machine;
-mod moved;
+mod host;
+mod memory;
 mod plot;
+mod programs;
+mod stack;
+mod summary;
 mod table;
 mod times;
+mod work;
 
 use std::env;
 use std::io;
 use std::path::Path;
 use std::process::ExitCode;
 
-use cases::Case;
-use machine::PROGRAMS;
 use table::Figures;
 
 fn main() -> ExitCode {
     let words: Vec<String> = env::args().skip(1).collect();
     let result = match words.split_first() {
         None => measure(),
-        Some((word, rest)) if word == counts::ONCE => {
-            counts::once(rest).ok_or_else(|| io::Error::other("there is no such case"))
+        Some((word, rest)) if word == counts::COUNTED => {
+            counts::count(rest).ok_or_else(|| io::Error::other("there is no such column"))
         }
         Some(_) => Err(io::Error::other("usage: bench")),
     };
@@ -52,27 +59,14 @@ fn measure() -> io::Result<()> {
         let message = format!("the programs do not do the same: {name}");
         return Err(io::Error::other(message));
     }
-    let figures = cases
-        .iter()
-        .enumerate()
-        .map(|(place, case)| figures(place, case));
-    let figures = figures.collect::<io::Result<Vec<_>>>()?;
-    print!("{}", table::tables(&figures));
+    let (counts, times) = (counts::all(&cases)?, times::all(&cases));
+    let figures = cases.iter().zip(counts).zip(times);
+    let figures: Vec<Figures> = figures
+        .map(|((case, counts), times)| Figures::new(case, counts, times))
+        .collect();
+    let depths = stack::depths(&cases);
+    print!("{}", summary::lines(&figures));
+    print!("{}", table::tables(&figures, &depths));
     let docs = Path::new(env!("CARGO_MANIFEST_DIR")).join("../docs");
-    document::write(&docs, &figures)
-}
-
-/// The cost of a case in both measures.
-fn figures(place: usize, case: &Case) -> io::Result<Figures> {
-    let mut instructions = [0.0; 3];
-    for (count, program) in instructions.iter_mut().zip(PROGRAMS) {
-        *count = counts::per_unit(place, case, program)?;
-    }
-    let moved = moved::by_case(case) / case.units;
-    Ok(Figures::new(
-        case,
-        moved,
-        instructions,
-        times::per_unit(case),
-    ))
+    document::write(&docs, &figures, &depths)
 }

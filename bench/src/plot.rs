@@ -1,92 +1,103 @@
-//! The plot: instructions of a frame against its length, and against the
-//! records that it overlaps, both axes logarithmic.
+//! The plot: instructions of a call against its length, and against the
+//! records that it joins, both axes logarithmic.
 
 use std::fmt::Write;
 
-use crate::cases::Group;
-use crate::table::Figures;
+use crate::cases::{Group, LENGTHS, RECORDS};
+use crate::table::{title, Figures, Measure};
+use crate::work::{Column, COLUMNS};
 
-const WIDTH: f64 = 420.0;
+const WIDTH: f64 = 300.0;
 const HEIGHT: f64 = 300.0;
-const LEFT: f64 = 70.0;
+const LEFT: f64 = 60.0;
 const TOP: f64 = 40.0;
 
 /// The range of the upright axis in powers of ten.
-const POWERS: (i32, i32) = (0, 6);
+const POWERS: (i32, i32) = (1, 5);
 
 /// One line of a panel.
-#[derive(Clone)]
 struct Curve {
-    label: String,
-    colour: &'static str,
-    dashes: &'static str,
+    label: &'static str,
+    style: String,
     points: Vec<(f64, f64)>,
 }
 
-/// One half of the plot.
+/// A part of the plot.
 struct Panel {
     title: &'static str,
     left: f64,
     /// The numbers at the lower axis; the axis runs from the first to the last.
-    marks: Vec<u64>,
+    marks: Vec<usize>,
     curves: Vec<Curve>,
 }
 
 /// The whole picture.
 pub fn picture(figures: &[Figures]) -> String {
     let panels = [
-        Panel {
-            title: "instructions of a fetch by its length in bytes",
-            left: LEFT,
-            marks: vec![1, 64, 512, 4_096],
-            curves: [
-                curves(figures, Group::Replayed, "replayed", "none"),
-                curves(figures, Group::Fresh, "fresh", "5 3"),
-            ]
-            .concat(),
-        },
-        Panel {
-            title: "of 4,096 bytes by the records overlapped",
-            left: 2.0 * LEFT + WIDTH,
-            marks: vec![1, 8, 64],
-            curves: curves(figures, Group::Overlap, "overlap", "none"),
-        },
+        (
+            "a replayed fetch by its length in bytes",
+            &LENGTHS[..],
+            Group::Replayed(1),
+        ),
+        (
+            "a fresh fetch by its length in bytes",
+            &LENGTHS[..],
+            Group::Fresh(1),
+        ),
+        (
+            "4,096 bytes by the records joined",
+            &RECORDS[..],
+            Group::Overlap,
+        ),
     ];
     let mut text = String::from(
-        "<svg xmlns=\"http://www.w3.org/2000/svg\" width=\"1080\" height=\"400\" \
+        "<svg xmlns=\"http://www.w3.org/2000/svg\" width=\"1120\" height=\"380\" \
          font-family=\"sans-serif\" font-size=\"12\">\n\
-         <rect width=\"1080\" height=\"400\" fill=\"white\"/>\n",
+         <rect width=\"1120\" height=\"380\" fill=\"white\"/>\n",
     );
-    for panel in &panels {
+    for (place, (title, marks, group)) in panels.into_iter().enumerate() {
+        let panel = Panel {
+            title,
+            left: LEFT + (LEFT + WIDTH) * place as f64,
+            marks: marks.to_vec(),
+            curves: COLUMNS.map(|column| curve(figures, group, column)).into(),
+        };
         panel.draw(&mut text).expect("a string takes every line");
     }
     text + "</svg>\n"
 }
 
-/// The curves of a group, one for each program.
-fn curves(figures: &[Figures], group: Group, name: &str, dashes: &'static str) -> Vec<Curve> {
-    let programs = [
-        ("proved", "#b03020"),
-        ("plain", "#2050a0"),
-        ("copy", "#808080"),
-    ];
-    let of_program = |(place, (program, colour)): (usize, (&str, &'static str))| Curve {
-        label: format!("{name}, {program}"),
-        colour,
-        dashes,
-        points: figures
-            .iter()
-            .filter(|figures| figures.group == group)
-            .map(|figures| (figures.size as f64, figures.instructions[place]))
-            .collect(),
+/// The curve of a program over the cases of a group.
+fn curve(figures: &[Figures], group: Group, column: Column) -> Curve {
+    let of_group = figures.iter().filter(|figures| figures.group == group);
+    let points = of_group.filter_map(|figures| {
+        let instructions = figures.of(Measure::Instructions, column)?;
+        Some((figures.size as f64, instructions))
+    });
+    Curve {
+        label: title(column),
+        style: style(column),
+        points: points.collect(),
+    }
+}
+
+/// The colour and the dashes of a program's curves.
+fn style(column: Column) -> String {
+    let (colour, dashes) = match column {
+        Column::Proved => ("#b03020", "none"),
+        Column::Checked => ("#2050a0", "none"),
+        Column::Unchecked => ("#2050a0", "5 3"),
+        Column::Ranges => ("#208040", "none"),
+        Column::Bitmap => ("#a07000", "none"),
+        Column::Copy => ("#808080", "2 2"),
     };
-    programs.into_iter().enumerate().map(of_program).collect()
+    format!("fill=\"none\" stroke=\"{colour}\" stroke-width=\"2\" stroke-dasharray=\"{dashes}\"")
 }
 
 /// Where a number of instructions stands.
 fn upright(instructions: f64) -> f64 {
     let (low, high) = (f64::from(POWERS.0), f64::from(POWERS.1));
-    let part = (instructions.max(1.0).log10() - low) / (high - low);
+    let part = (instructions.max(10.0).log10() - low) / (high - low);
     TOP + HEIGHT * (1.0 - part)
 }
 
@@ -140,10 +151,7 @@ impl Panel {
             format!("{x:.1},{y:.1}")
         });
         let points = points.collect::<Vec<_>>().join(" ");
-        let style = format!(
-            "fill=\"none\" stroke=\"{}\" stroke-width=\"2\" stroke-dasharray=\"{}\"",
-            curve.colour, curve.dashes
-        );
+        let style = &curve.style;
         writeln!(text, "<polyline points=\"{points}\" {style}/>")?;
         let (x, y) = (self.left + 12.0, TOP + 14.0 + 15.0 * place as f64);
         let line = x + 26.0;

@@ -1,77 +1,139 @@
 //! The figures of a run, and the tables of them.
 
-use std::fmt::Write;
-
 use crate::cases::{Case, Group};
+use crate::stack::Depth;
+use crate::work::{ByColumn, Column, COLUMNS};
 
-/// The cost of one frame of a case, by program: proved, plain, copy.
+/// The cost of one call or frame of a case.
 pub struct Figures {
     pub group: Group,
     pub name: String,
-    pub size: u64,
-    /// Payload bytes that the frame moves.
-    pub moved: usize,
-    pub instructions: [f64; 3],
-    pub nanoseconds: [f64; 3],
+    pub size: usize,
+    /// Payload bytes that it moves.
+    moved: usize,
+    pub instructions: ByColumn<f64>,
+    pub nanoseconds: ByColumn<f64>,
+}
+
+/// What is measured of each.
+#[derive(Clone, Copy)]
+pub enum Measure {
+    Instructions,
+    Nanoseconds,
+}
+
+pub const MEASURES: [Measure; 2] = [Measure::Instructions, Measure::Nanoseconds];
+
+impl Measure {
+    pub fn name(self) -> &'static str {
+        match self {
+            Measure::Instructions => "instructions",
+            Measure::Nanoseconds => "nanoseconds",
+        }
+    }
 }
 
 impl Figures {
-    pub fn new(
-        case: &Case,
-        moved: usize,
-        instructions: [f64; 3],
-        nanoseconds: [f64; 3],
-    ) -> Figures {
+    pub fn new(case: &Case, instructions: ByColumn<f64>, nanoseconds: ByColumn<f64>) -> Figures {
         Figures {
             group: case.group,
             name: case.name.clone(),
             size: case.size,
-            moved,
+            moved: case.moved / case.units,
             instructions,
             nanoseconds,
         }
     }
 
-    /// A row of the table. The ratios are those of proved to plain.
-    fn row(&self) -> String {
-        let [a, b, c] = self.instructions;
-        let [d, e, f] = self.nanoseconds;
-        format!(
-            "| {} | {:.0} | {:.0} | {:.1} | {:.0} | {:.0} | {:.1} | {} | {:.0} | {:.0} |",
-            self.name,
-            a,
-            b,
-            a / b,
-            d,
-            e,
-            d / e,
-            self.moved,
-            c,
-            f
-        )
+    pub fn of(&self, measure: Measure, column: Column) -> Option<f64> {
+        let place = COLUMNS.iter().position(|other| *other == column)?;
+        match measure {
+            Measure::Instructions => self.instructions[place],
+            Measure::Nanoseconds => self.nanoseconds[place],
+        }
+    }
+
+    /// What the proved library takes of what the plain program with checks
+    /// takes.
+    pub fn ratio(&self, measure: Measure) -> Option<f64> {
+        let proved = self.of(measure, Column::Proved)?;
+        Some(proved / self.of(measure, Column::Checked)?)
+    }
+
+    fn row(&self, measure: Measure, columns: &[Column]) -> String {
+        let ratio = self.ratio(measure);
+        let ratio = ratio.map_or("–".to_string(), |ratio| format!("{ratio:.2}"));
+        let mut row = format!("| {} | {} | {ratio} |", self.name, self.moved);
+        for column in columns {
+            let figure = self.of(measure, *column);
+            let figure = figure.map_or("–".to_string(), |figure| format!("{figure:.0}"));
+            row += &format!(" {figure} |");
+        }
+        row + "\n"
     }
 }
 
-const HEAD: &str = "\
-| one frame | instructions, proved | plain | ratio | ns, proved | plain | ratio | bytes moved | copy of them, instructions | ns |
-|---|---|---|---|---|---|---|---|---|---|
-";
+/// What stands above a column.
+pub fn title(column: Column) -> &'static str {
+    match column {
+        Column::Proved => "proved",
+        Column::Checked => "plain, checks",
+        Column::Unchecked => "plain, no checks",
+        Column::Ranges => "ranges",
+        Column::Bitmap => "bitmap",
+        Column::Copy => "one copy",
+    }
+}
 
-/// The table of the cases, and the one of the parts.
-pub fn tables(figures: &[Figures]) -> String {
-    let mut text = String::from(HEAD);
-    let (parts, cases): (Vec<_>, Vec<_>) = figures
+/// The columns that a journal has.
+const OF_JOURNALS: [Column; 4] = [
+    Column::Proved,
+    Column::Checked,
+    Column::Unchecked,
+    Column::Copy,
+];
+
+/// The tables of calls and of journals, by each measure, and of the stack.
+pub fn tables(figures: &[Figures], depths: &[Depth]) -> String {
+    let (frames, calls): (Vec<_>, Vec<_>) = figures
         .iter()
-        .partition(|figures| figures.group == Group::Part);
-    rows(&mut text, &cases);
-    text.push_str("\nFrames that leave out a part of the work each:\n\n");
-    text.push_str(HEAD);
-    rows(&mut text, &parts);
+        .partition(|figures| figures.group == Group::Frame);
+    let mut text = String::new();
+    for (title, rows, columns) in [
+        ("one call", &calls, &COLUMNS[..]),
+        ("one frame of a journal", &frames, &OF_JOURNALS[..]),
+    ] {
+        for measure in MEASURES {
+            text += &table(title, measure, rows, columns);
+        }
+    }
+    text + &stack_table(depths)
+}
+
+fn table(what: &str, measure: Measure, rows: &[&Figures], columns: &[Column]) -> String {
+    let mut text = format!("\n### {} of {what}\n\n", capital(measure.name()));
+    text += &format!("| {what} | bytes moved | proved : plain, checks |");
+    text.extend(
+        columns
+            .iter()
+            .map(|column| format!(" {} |", title(*column))),
+    );
+    text += &format!("\n|---|---|---|{}\n", "---|".repeat(columns.len()));
+    text.extend(rows.iter().map(|row| row.row(measure, columns)));
     text
 }
 
-fn rows(text: &mut String, figures: &[&Figures]) {
-    for figures in figures {
-        writeln!(text, "{}", figures.row()).expect("a string takes every line");
-    }
+/// A word as the first of a line.
+pub fn capital(word: &str) -> String {
+    word[..1].to_uppercase() + &word[1..]
+}
+
+fn stack_table(depths: &[Depth]) -> String {
+    let mut text = "\n### Stack of one call\n\n| call | bytes |\n|---|---|\n".to_string();
+    text.extend(
+        depths
+            .iter()
+            .map(|depth| format!("| {} | {} |\n", depth.function, depth.bytes)),
+    );
+    text
 }

@@ -1,37 +1,25 @@
-//! The one function that the proved library exports, as Rust calls it.
+//! The functions that the proved library exports, as Rust calls them.
 //!
 //! The library takes each slice as two arguments, a pointer to its first byte
-//! and its length. What it promises of them is `Exports` in
-//! `crates/journal/specs/Export.antt`. It asks nothing of their values and
-//! lengths; it does rely on what a Rust reference means: the memory is there,
-//! no two of the slices share a byte, and nobody else writes them during the
-//! call. [`replay`] has that from its types. [`replay_in`] does not for the
-//! window, and whoever calls it answers for it.
+//! and its length, and a state as one pointer to its words. What it promises
+//! of them is in `crates/doorclover/specs`. It asks nothing of their values
+//! and lengths; it does rely on what a Rust reference means: the memory is
+//! there, no two of the arguments share a byte, and nobody else writes them
+//! during the call. The safe functions here have that from their types.
+//! [`fetch_in`] and [`journal_replay_in`] do not for the window, and whoever
+//! calls them answers for it.
 
-extern "C" {
-    fn journal_replay(
-        input: *const u8,
-        input_length: usize,
-        store: *mut u8,
-        store_length: usize,
-        window: *mut u8,
-        window_length: usize,
-        destination: *mut u8,
-        destination_length: usize,
-        output: *mut u8,
-        output_length: usize,
-        summary: *mut u8,
-        summary_length: usize,
-    ) -> usize;
-}
+mod exported;
 
-/// The buffers that a run changes, the window left out.
-pub struct Lent<'a> {
-    pub store: &'a mut [u8],
-    pub destination: &'a mut [u8],
-    pub output: &'a mut [u8],
-    pub summary: &'a mut [u8],
-}
+pub use exported::{Begun, Ended, Fetched, Framed, Replayed, Shown, Step, Written};
+
+/// How many words a state has.
+pub const WORDS: usize = 1032;
+
+/// The words of a state: of each command 0 if it is closed and else one more
+/// than the number of its records, and then the start and the length of each
+/// of its 64 entries.
+pub type Words = [u16; WORDS];
 
 /// A window as a place in memory, for memory that no Rust reference may stand
 /// for.
@@ -41,43 +29,198 @@ pub struct RawWindow {
     pub length: usize,
 }
 
-/// Runs a journal from the fresh state and answers how many bytes of its log
-/// stand in the output.
-pub fn replay(input: &[u8], window: &mut [u8], lent: Lent) -> usize {
-    let window = RawWindow {
-        start: window.as_mut_ptr(),
-        length: window.len(),
-    };
-    // SAFETY: the input and the window come from references that live through
-    // the call.
-    unsafe { replay_in(input.as_ptr(), input.len(), window, lent) }
+impl RawWindow {
+    fn of(window: &mut [u8]) -> RawWindow {
+        RawWindow {
+            start: window.as_mut_ptr(),
+            length: window.len(),
+        }
+    }
 }
 
-/// The same on an input and a window that are given by their places.
+/// Which interface the archive has.
+pub fn release() -> u32 {
+    // SAFETY: it takes nothing.
+    unsafe { exported::doorclover_release() }
+}
+
+/// Makes the fresh state.
+pub fn fresh(state: &mut Words) {
+    // SAFETY: the words come from a reference.
+    unsafe { exported::doorclover_fresh(state.as_mut_ptr()) }
+}
+
+pub fn begin(state: &mut Words, store: &mut [u8], command: usize) -> Begun {
+    // SAFETY: what is lent comes from references that live through the call.
+    unsafe {
+        exported::doorclover_begin(state.as_mut_ptr(), store.as_mut_ptr(), store.len(), command)
+    }
+}
+
+pub fn fetch(
+    state: &mut Words,
+    store: &mut [u8],
+    window: &[u8],
+    destination: &mut [u8],
+    command: usize,
+    address: usize,
+    length: usize,
+) -> Fetched {
+    // SAFETY: what is lent comes from references that live through the call.
+    // The window is only read.
+    unsafe {
+        let window = RawWindow {
+            start: window.as_ptr().cast_mut(),
+            length: window.len(),
+        };
+        fetch_in(state, store, window, destination, command, address, length)
+    }
+}
+
+/// The same on a window that is given by its place.
 ///
 /// # Safety
 ///
-/// Both must be memory that the process may read, the window also memory that
-/// it may write, and no buffer may share a byte with another. Where somebody
-/// else writes the window during the call, the proof says nothing of the run.
-pub unsafe fn replay_in(
-    input: *const u8,
-    input_length: usize,
+/// The window must be memory that the process may read, and share no byte with
+/// what else is lent. Where somebody else writes it during the call, the proof
+/// says nothing of the call.
+pub unsafe fn fetch_in(
+    state: &mut Words,
+    store: &mut [u8],
     window: RawWindow,
-    lent: Lent,
-) -> usize {
-    journal_replay(
-        input,
-        input_length,
-        lent.store.as_mut_ptr(),
-        lent.store.len(),
+    destination: &mut [u8],
+    command: usize,
+    address: usize,
+    length: usize,
+) -> Fetched {
+    exported::doorclover_fetch(
+        state.as_mut_ptr(),
+        store.as_mut_ptr(),
+        store.len(),
         window.start,
         window.length,
-        lent.destination.as_mut_ptr(),
-        lent.destination.len(),
-        lent.output.as_mut_ptr(),
-        lent.output.len(),
-        lent.summary.as_mut_ptr(),
-        lent.summary.len(),
+        destination.as_mut_ptr(),
+        destination.len(),
+        command,
+        address,
+        length,
+    )
+}
+
+pub fn end(state: &mut Words, store: &mut [u8], command: usize) -> Ended {
+    // SAFETY: what is lent comes from references that live through the call.
+    unsafe {
+        exported::doorclover_end(state.as_mut_ptr(), store.as_mut_ptr(), store.len(), command)
+    }
+}
+
+pub fn host_write(window: &mut [u8], address: usize, bytes: &[u8]) -> Written {
+    // SAFETY: what is lent comes from references that live through the call.
+    unsafe {
+        exported::doorclover_host_write(
+            window.as_mut_ptr(),
+            window.len(),
+            address,
+            bytes.as_ptr(),
+            bytes.len(),
+        )
+    }
+}
+
+pub fn own_write(
+    state: &mut Words,
+    store: &mut [u8],
+    window: &mut [u8],
+    command: usize,
+    address: usize,
+    bytes: &[u8],
+) -> Written {
+    // SAFETY: what is lent comes from references that live through the call.
+    unsafe {
+        exported::doorclover_own_write(
+            state.as_mut_ptr(),
+            store.as_mut_ptr(),
+            store.len(),
+            window.as_mut_ptr(),
+            window.len(),
+            command,
+            address,
+            bytes.as_ptr(),
+            bytes.len(),
+        )
+    }
+}
+
+pub fn show(state: &Words, command: usize, index: usize) -> Shown {
+    // SAFETY: the words come from a reference, and are only read.
+    unsafe { exported::doorclover_show(state.as_ptr(), command, index) }
+}
+
+pub fn frame_read(frame: &[u8]) -> Step {
+    // SAFETY: the frame comes from a reference, and is only read.
+    unsafe { exported::doorclover_frame_read(frame.as_ptr(), frame.len()) }
+}
+
+pub fn frame_write(
+    output: &mut [u8],
+    kind: usize,
+    command: usize,
+    address: usize,
+    length: usize,
+    data: &[u8],
+) -> Framed {
+    // SAFETY: what is lent comes from references that live through the call.
+    unsafe {
+        exported::doorclover_frame_write(
+            output.as_mut_ptr(),
+            output.len(),
+            kind,
+            command,
+            address,
+            length,
+            data.as_ptr(),
+            data.len(),
+        )
+    }
+}
+
+/// Runs a journal from the fresh state and writes its log.
+pub fn journal_replay(
+    journal: &[u8],
+    store: &mut [u8],
+    window: &mut [u8],
+    destination: &mut [u8],
+    output: &mut [u8],
+) -> Replayed {
+    let window = RawWindow::of(window);
+    // SAFETY: what is lent comes from references that live through the call.
+    unsafe { journal_replay_in(journal, store, window, destination, output) }
+}
+
+/// The same on a window that is given by its place.
+///
+/// # Safety
+///
+/// The window must be memory that the process may read and write, and share no
+/// byte with what else is lent. Where somebody else writes it during the call,
+/// the proof says nothing of the run.
+pub unsafe fn journal_replay_in(
+    journal: &[u8],
+    store: &mut [u8],
+    window: RawWindow,
+    destination: &mut [u8],
+    output: &mut [u8],
+) -> Replayed {
+    exported::doorclover_journal_replay(
+        journal.as_ptr(),
+        journal.len(),
+        store.as_mut_ptr(),
+        store.len(),
+        window.start,
+        window.length,
+        destination.as_mut_ptr(),
+        destination.len(),
+        output.as_mut_ptr(),
+        output.len(),
     )
 }

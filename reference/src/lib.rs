@@ -8,14 +8,14 @@
 //! - [`book`]: spans, the book of records, and the check that it holds together.
 //! - [`cache`]: the six calls.
 //! - [`frames`]: the reader and the writer of step frames.
+//! - [`journal`]: frames carried out one after the other, and their log.
 //! - [`log`]: the log program, from input bytes to output text.
-//! - [`direct`]: a script of calls that no frame can ask for, and its lines.
 
 pub mod book;
 pub mod cache;
-pub mod direct;
 pub mod frames;
 mod held;
+pub mod journal;
 pub mod limits;
 pub mod log;
 pub mod refusal;

@@ -6,8 +6,8 @@ mod scene;
 
 mod any_book;
 mod broken_books;
-mod direct_calls;
 mod frames_both_ways;
+mod journals;
 mod limits_of_calls;
 mod limits_of_frames;
 mod log_program;

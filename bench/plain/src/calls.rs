@@ -1,208 +1,197 @@
-//! The calls that a frame can ask for. A refusal is its number.
+//! The calls. A refusal is its number, the lowest that applies.
+//!
+//! A [`Cache`] that is `CHECKED` looks at its whole state at every call, as one
+//! must that gets the state from somebody else. The other relies on owning it.
 
-use crate::state::{held, Command, Record, State, HELD, RECORDS, STORE, TRANSFER, WINDOW};
+use crate::meeting::{passed, Meeting};
+use crate::state::{
+    end, held, start, Command, Record, State, COMMANDS, HELD, RECORDS, STORE, TRANSFER, WINDOW,
+};
 
 /// Two numbers of a reply.
 pub type Counts = (usize, usize);
 
-/// The first refusal of a list in ascending order that applies.
-fn first<const N: usize>(checks: [(u8, bool); N]) -> Result<(), u8> {
-    match checks.into_iter().find(|(_, applies)| *applies) {
-        Some((number, _)) => Err(number),
-        None => Ok(()),
+/// The state, and whether it is checked at each call.
+pub struct Cache<const CHECKED: bool> {
+    pub state: State,
+}
+
+/// The refusal, if it applies.
+fn refuse(number: u8, applies: bool) -> Result<(), u8> {
+    if applies {
+        Err(number)
+    } else {
+        Ok(())
     }
 }
 
 /// The part of the store that belongs to a command.
 fn part(store: &mut [u8], command: usize) -> &mut [u8] {
-    &mut store[HELD * command..HELD * (command + 1)]
+    &mut store[HELD * command..][..HELD]
 }
 
-/// Whether a span ends behind the window.
+/// Whether a span ends behind the window; no sum is formed that could be too
+/// large.
 fn outside(window: &[u8], address: usize, length: usize) -> bool {
-    address + length > window.len()
+    length > window.len() || address > window.len() - length
 }
 
-pub fn begin(state: &mut State, store: &mut [u8], command: usize) -> Result<(), u8> {
-    first([(8, store.len() != STORE)])?;
-    first([(20, !state.holds_together())])?;
-    first([(22, state.commands[command].open)])?;
-    state.commands[command] = Command::empty(true);
-    part(store, command).fill(0);
-    Ok(())
+/// Puts bytes into the window.
+pub fn host_write(window: &mut [u8], address: usize, bytes: &[u8]) -> Result<usize, u8> {
+    refuse(4, bytes.len() > TRANSFER)?;
+    refuse(7, window.len() > WINDOW)?;
+    refuse(9, outside(window, address, bytes.len()))?;
+    window[address..][..bytes.len()].copy_from_slice(bytes);
+    Ok(bytes.len())
 }
 
-/// Replies how many records and distinct bytes the command had.
-pub fn end(state: &mut State, store: &mut [u8], command: usize) -> Result<Counts, u8> {
-    first([(8, store.len() != STORE)])?;
-    first([(20, !state.holds_together())])?;
-    let entry = &mut state.commands[command];
-    first([(21, !entry.open)])?;
-    let counts = (entry.count, held(entry.records()));
-    *entry = Command::empty(false);
-    part(store, command).fill(0);
-    Ok(counts)
-}
-
-pub fn host_write(window: &mut [u8], address: usize, data: &[u8]) -> Result<usize, u8> {
-    first([
-        (4, data.len() > TRANSFER),
-        (7, window.len() > WINDOW),
-        (9, outside(window, address, data.len())),
-    ])?;
-    window[address..address + data.len()].copy_from_slice(data);
-    Ok(data.len())
-}
-
-pub fn own_write(
-    state: &State,
-    window: &mut [u8],
-    command: usize,
-    address: usize,
-    data: &[u8],
-) -> Result<usize, u8> {
-    first([
-        (4, data.len() > TRANSFER),
-        (7, window.len() > WINDOW),
-        (9, outside(window, address, data.len())),
-    ])?;
-    first([(20, !state.holds_together())])?;
-    first([(21, !state.commands[command].open)])?;
-    window[address..address + data.len()].copy_from_slice(data);
-    Ok(data.len())
-}
-
-/// Replies the fresh and the replayed bytes.
-pub fn fetch(
-    state: &mut State,
-    store: &mut [u8],
-    window: &[u8],
-    destination: &mut [u8],
-    command: usize,
-    address: usize,
-    length: usize,
-) -> Result<Counts, u8> {
-    first([
-        (4, length > TRANSFER),
-        (7, window.len() > WINDOW),
-        (8, store.len() != STORE),
-        (9, outside(window, address, length)),
-        (10, destination.len() < length),
-    ])?;
-    first([(20, !state.holds_together())])?;
-    let entry = &mut state.commands[command];
-    first([(21, !entry.open)])?;
-    if length == 0 {
-        return Ok((0, 0));
+/// Every call stays a call, as a linked library's do, so that none is measured
+/// as a part of what calls it.
+impl<const CHECKED: bool> Cache<CHECKED> {
+    pub const fn fresh() -> Cache<CHECKED> {
+        Cache {
+            state: State::fresh(),
+        }
     }
-    let fresh = fetch_span(
-        entry,
-        part(store, command),
-        window,
-        destination,
-        address,
-        length,
-    )?;
-    Ok((fresh, length - fresh))
+
+    /// Refuses a state that does not hold together.
+    fn check(&self) -> Result<(), u8> {
+        refuse(20, CHECKED && !self.state.holds_together())
+    }
+
+    /// A command that is open.
+    fn opened(&self, command: usize) -> Result<&Command, u8> {
+        let entry = &self.state.commands[command];
+        refuse(21, !entry.is_open())?;
+        Ok(entry)
+    }
+
+    #[inline(never)]
+    pub fn begin(&mut self, store: &mut [u8], command: usize) -> Result<(), u8> {
+        refuse(6, command >= COMMANDS)?;
+        refuse(8, store.len() != STORE)?;
+        self.check()?;
+        let entry = &mut self.state.commands[command];
+        refuse(22, entry.is_open())?;
+        *entry = Command::OPENED;
+        part(store, command).fill(0);
+        Ok(())
+    }
+
+    /// Replies how many records and distinct bytes the command had.
+    #[inline(never)]
+    pub fn end(&mut self, store: &mut [u8], command: usize) -> Result<Counts, u8> {
+        refuse(6, command >= COMMANDS)?;
+        refuse(8, store.len() != STORE)?;
+        self.check()?;
+        let records = self.opened(command)?.records();
+        let counts = (records.len(), held(records));
+        self.state.commands[command] = Command::CLOSED;
+        part(store, command).fill(0);
+        Ok(counts)
+    }
+
+    #[inline(never)]
+    pub fn own_write(
+        &self,
+        window: &mut [u8],
+        command: usize,
+        address: usize,
+        bytes: &[u8],
+    ) -> Result<usize, u8> {
+        refuse(4, bytes.len() > TRANSFER)?;
+        refuse(6, command >= COMMANDS)?;
+        refuse(7, window.len() > WINDOW)?;
+        refuse(9, outside(window, address, bytes.len()))?;
+        self.check()?;
+        self.opened(command)?;
+        host_write(window, address, bytes)
+    }
+
+    /// A record of an open command, counted from 0.
+    #[inline(never)]
+    pub fn show(&self, command: usize, index: usize) -> Result<Record, u8> {
+        refuse(6, command >= COMMANDS)?;
+        self.check()?;
+        self.opened(command)?
+            .records()
+            .get(index)
+            .copied()
+            .ok_or(25)
+    }
+
+    /// Replies the fresh and the replayed bytes.
+    #[inline(never)]
+    pub fn fetch(
+        &mut self,
+        store: &mut [u8],
+        window: &[u8],
+        destination: &mut [u8],
+        command: usize,
+        address: usize,
+        length: usize,
+    ) -> Result<Counts, u8> {
+        refuse(4, length > TRANSFER)?;
+        refuse(6, command >= COMMANDS)?;
+        refuse(7, window.len() > WINDOW)?;
+        refuse(8, store.len() != STORE)?;
+        refuse(9, outside(window, address, length))?;
+        refuse(10, destination.len() < length)?;
+        self.check()?;
+        self.opened(command)?;
+        if length == 0 {
+            return Ok((0, 0));
+        }
+        let entry = &mut self.state.commands[command];
+        let destination = &mut destination[..length];
+        let fresh = fetch_span(entry, part(store, command), window, destination, address)?;
+        Ok((fresh, length - fresh))
+    }
 }
 
-/// Holds and delivers a span of a byte or more, and answers how many of its
-/// bytes are fresh.
+/// Holds a span of a byte or more and fills the destination with it, and
+/// answers how many of its bytes are fresh.
 fn fetch_span(
     entry: &mut Command,
     part: &mut [u8],
     window: &[u8],
     destination: &mut [u8],
     address: usize,
-    length: usize,
 ) -> Result<usize, u8> {
-    let meeting = Meeting::of(entry.records(), address, address + length);
-    let fresh = meeting.fresh();
-    let records = entry.count + 1 - (meeting.last - meeting.first);
-    first([
-        (
-            23,
-            meeting.below + meeting.held + meeting.behind + fresh > HELD,
-        ),
-        (24, records > RECORDS),
-    ])?;
-    if fresh > 0 {
-        meeting.fill(part, entry.records(), window);
-    }
-    meeting.splice(entry);
-    let place = meeting.below + address - meeting.low;
-    destination[..length].copy_from_slice(&part[place..place + length]);
+    let stop = address + destination.len();
+    let records = entry.records();
+    let (first, below) = passed(records, address);
+    let (place, fresh) = match records.get(first) {
+        Some(record) if start(*record) <= address && stop <= end(*record) => {
+            (below + address - start(*record), 0)
+        }
+        _ => {
+            let meeting = Meeting::of(records, first, address, stop);
+            join(entry, part, window, &meeting, below)?;
+            (below + address - meeting.low, meeting.fresh())
+        }
+    };
+    destination.copy_from_slice(&part[place..][..destination.len()]);
     Ok(fresh)
 }
 
-/// How a span lies among records: it meets those from `first` up to `last`,
-/// and reaches with them from `low` up to `high`. The records before, met and
-/// behind hold so many bytes.
-struct Meeting {
-    first: usize,
-    last: usize,
-    low: usize,
-    high: usize,
+/// Makes one record of a span and those that it meets.
+fn join(
+    entry: &mut Command,
+    part: &mut [u8],
+    window: &[u8],
+    meeting: &Meeting,
     below: usize,
-    held: usize,
-    behind: usize,
-}
-
-impl Meeting {
-    fn of(records: &[Record], address: usize, end: usize) -> Meeting {
-        let first = records.partition_point(|record| record.end() <= address);
-        let last = records.partition_point(|record| record.start() < end);
-        let met = &records[first..last];
-        Meeting {
-            first,
-            last,
-            low: met
-                .first()
-                .map_or(address, |record| address.min(record.start())),
-            high: met.last().map_or(end, |record| end.max(record.end())),
-            below: held(&records[..first]),
-            held: held(met),
-            behind: held(&records[last..]),
-        }
+) -> Result<(), u8> {
+    let records = entry.records();
+    let behind = held(&records[meeting.last..]);
+    let (first, last) = (meeting.first, meeting.last);
+    refuse(23, below + meeting.length() + behind > HELD)?;
+    refuse(24, records.len() + 1 - (last - first) > RECORDS)?;
+    if meeting.fresh() > 0 {
+        let part = &mut part[below..][..meeting.length() + behind];
+        meeting.fill(part, &records[first..last], behind, window);
     }
-
-    fn fresh(&self) -> usize {
-        self.high - self.low - self.held
-    }
-
-    /// Makes room in the store part and puts the bytes of the joined record
-    /// side by side, from the last record down.
-    fn fill(&self, part: &mut [u8], records: &[Record], window: &[u8]) {
-        let mut old = self.below + self.held;
-        part.copy_within(old..old + self.behind, old + self.fresh());
-        let mut new = old + self.fresh();
-        let mut top = self.high;
-        for record in records[self.first..self.last].iter().rev() {
-            let gap = top - record.end();
-            new -= gap;
-            part[new..new + gap].copy_from_slice(&window[record.end()..top]);
-            old -= record.length();
-            new -= record.length();
-            part.copy_within(old..old + record.length(), new);
-            top = record.start();
-        }
-        let gap = top - self.low;
-        part[old..old + gap].copy_from_slice(&window[self.low..top]);
-    }
-
-    /// Puts the joined record in the place of those that were met.
-    fn splice(&self, entry: &mut Command) {
-        let count = entry.count + 1 - (self.last - self.first);
-        entry
-            .records
-            .copy_within(self.last..entry.count, self.first + 1);
-        entry.records[self.first] = Record {
-            start: self.low as u16,
-            length: (self.high - self.low) as u16,
-        };
-        if count < entry.count {
-            entry.records[count..entry.count].fill(Record::UNUSED);
-        }
-        entry.count = count;
-    }
+    entry.splice(first, last, meeting.record());
+    Ok(())
 }

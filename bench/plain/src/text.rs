@@ -25,26 +25,28 @@ impl Text<'_> {
         Text { buffer, written: 0 }
     }
 
+    /// Most texts are short, of known length, and find room: no more than a
+    /// store where it is called.
+    #[inline]
     pub fn put(&mut self, text: &[u8]) {
         let room = &mut self.buffer[self.written..];
-        let fits = room.len().min(text.len());
-        room[..fits].copy_from_slice(&text[..fits]);
-        self.written += fits;
+        match room.get_mut(..text.len()) {
+            Some(room) => {
+                room.copy_from_slice(text);
+                self.written += text.len();
+            }
+            None => {
+                room.copy_from_slice(&text[..room.len()]);
+                self.written = self.buffer.len();
+            }
+        }
     }
 
     pub fn put_decimal(&mut self, number: usize) {
-        let mut digits = [0; 20];
-        let mut start = digits.len();
-        let mut rest = number;
-        loop {
-            start -= 1;
-            digits[start] = b'0' + (rest % 10) as u8;
-            rest /= 10;
-            if rest == 0 {
-                break;
-            }
+        if number >= 10 {
+            self.put_decimal(number / 10);
         }
-        self.put(&digits[start..]);
+        self.put(&[b'0' + (number % 10) as u8]);
     }
 
     /// A blank and a number.

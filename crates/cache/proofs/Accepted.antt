@@ -5,10 +5,9 @@ use mathlib.Core.List.{[], _∷_}
 use mathlib.Core.Bool.{true}
 use lib.ListN.{length}
 use borrow.Author.Tests.{ltb-false, leb-false, eqb-true, not-false}
-use Rattle.state.specs.declared.CacheState.{CacheState}
 use Rattle.state.specs.Limits.{commandLimit, recordLimit, heldLimit, windowLimit, storeSize}
 use Rattle.state.specs.Records.{total, fresh, joined}
-use Rattle.state.specs.State.{recordsOf, isOpen, holds}
+use Rattle.state.specs.State.{State, recordsOf, isOpen, holds}
 use Rattle.state.specs.Verdict.{replied, accepted}
 use Rattle.state.proofs.Verdict.{none-applies, given}
 use Rattle.cache.specs.Begin.{beginSays}
@@ -18,32 +17,32 @@ use Rattle.cache.specs.HostWrite.{hostSays}
 use Rattle.cache.specs.OwnWrite.{ownSays}
 
 -- what begin and end have in common
-pub record Ready (s : CacheState) (storeLen c : ℕ) : Type 0 where
+pub record Ready (s : State) (storeLen c : ℕ) : Type 0 where
   pub command : c < commandLimit
   pub size : storeLen ≡ storeSize
   pub whole : holds s ≡ true
 
-pub begun : (s : CacheState) (storeLen c : ℕ) → accepted (beginSays s storeLen c) ≡ true → Ready s storeLen c
+pub begun : (s : State) (storeLen c : ℕ) → accepted (beginSays s storeLen c) ≡ true → Ready s storeLen c
 unfolding beginSays
 begun s storeLen c e =
     let h = none-applies _ _ e in
     record { command = leb-false _ _ (h .0); size = eqb-true _ _ (not-false _ (h .1 .0)); whole = not-false _ (h .1 .1 .0) }
 
-pub ended : (s : CacheState) (storeLen c : ℕ) → accepted (endSays s storeLen c) ≡ true → Ready s storeLen c
+pub ended : (s : State) (storeLen c : ℕ) → accepted (endSays s storeLen c) ≡ true → Ready s storeLen c
 unfolding endSays
 ended s storeLen c e =
     let h = none-applies _ _ e in
     record { command = leb-false _ _ (h .0); size = eqb-true _ _ (not-false _ (h .1 .0)); whole = not-false _ (h .1 .1 .0) }
 
-pub ended-open : (s : CacheState) (storeLen c : ℕ) → accepted (endSays s storeLen c) ≡ true → isOpen s c ≡ true
+pub ended-open : (s : State) (storeLen c : ℕ) → accepted (endSays s storeLen c) ≡ true → isOpen s c ≡ true
 unfolding endSays
 ended-open s storeLen c e = not-false _ (none-applies _ _ e .1 .1 .1 .0)
 
-pub ended-reply : (s : CacheState) (storeLen c : ℕ) → accepted (endSays s storeLen c) ≡ true → endSays s storeLen c ≡ replied (length (recordsOf s c) ∷ total (recordsOf s c) ∷ [])
+pub ended-reply : (s : State) (storeLen c : ℕ) → accepted (endSays s storeLen c) ≡ true → endSays s storeLen c ≡ replied (length (recordsOf s c) ∷ total (recordsOf s c) ∷ [])
 unfolding endSays
 ended-reply s storeLen c e = given _ _ e
 
-pub record Fetched (s : CacheState) (storeLen windowLen destLen c a n : ℕ) : Type 0 where
+pub record Fetched (s : State) (storeLen windowLen destLen c a n : ℕ) : Type 0 where
   pub command : c < commandLimit
   pub low : windowLen ≤ windowLimit
   pub size : storeLen ≡ storeSize
@@ -54,7 +53,7 @@ pub record Fetched (s : CacheState) (storeLen windowLen destLen c a n : ℕ) : T
   pub room : total (recordsOf s c) + fresh (recordsOf s c) a n ≤ heldLimit
   pub few : length (joined (recordsOf s c) a n) ≤ recordLimit
 
-module _ (s : CacheState) (storeLen windowLen destLen c a n : ℕ) (e : accepted (fetchSays s storeLen windowLen destLen c a n) ≡ true) where
+module _ (s : State) (storeLen windowLen destLen c a n : ℕ) (e : accepted (fetchSays s storeLen windowLen destLen c a n) ≡ true) where
   pub fetched : Fetched s storeLen windowLen destLen c a n
   unfolding fetchSays
   fetched =
@@ -81,6 +80,6 @@ pub host-inside : (windowLen a n : ℕ) → accepted (hostSays windowLen a n) �
 unfolding hostSays
 host-inside windowLen a n e = ltb-false _ _ (none-applies _ _ e .1 .1 .0)
 
-pub own-inside : (s : CacheState) (windowLen c a n : ℕ) → accepted (ownSays s windowLen c a n) ≡ true → a + n ≤ windowLen
+pub own-inside : (s : State) (windowLen c a n : ℕ) → accepted (ownSays s windowLen c a n) ≡ true → a + n ≤ windowLen
 unfolding ownSays
 own-inside s windowLen c a n e = ltb-false _ _ (none-applies _ _ e .1 .1 .1 .0)

@@ -2,7 +2,7 @@
 use Prim.Native.Nat.{ℕ}
 use mathlib.Core.Path.{refl}
 use Rattle.octets.specs.Lists.{all}
-use Rattle.state.specs.declared.CacheState.{CacheState}
+use Rattle.state.specs.State.{State}
 use Rattle.state.specs.Verdict.{ascendFrom}
 use Rattle.state.proofs.Verdict.{verdict-lowest}
 use Rattle.cache.specs.Begin.{beginSays}
@@ -13,7 +13,7 @@ use Rattle.cache.specs.OwnWrite.{ownSays}
 use Rattle.cache.specs.Show.{showSays}
 use Rattle.cache.specs.Order.{CanApply, ChecksAscend, LowestGiven}
 
-module _ (s : CacheState) (storeLen windowLen destLen c a n i : ℕ) where
+module _ (s : State) (storeLen windowLen destLen c a n i : ℕ) where
   pub can-apply : CanApply s storeLen windowLen destLen c a n i
   can-apply = refl
 

@@ -3,20 +3,19 @@
 use Prim.Native.Nat.{ℕ}
 use mathlib.Core.Path.{_≡_}
 use mathlib.Core.List.{List, [], _∷_}
-use mathlib.Core.Bool.{cond}
+use mathlib.Core.Bool.{false, cond}
 use lib.ListN.{length}
-use Rattle.state.specs.declared.CacheState.{CacheState}
 use Rattle.state.specs.Records.{total}
-use Rattle.state.specs.State.{recordsOf, closed, withCommand}
+use Rattle.state.specs.State.{State, recordsOf, closed, withCommand}
+use Rattle.state.specs.Words.{stateOf}
 use Rattle.state.specs.Refusals.{number}
 use Rattle.state.specs.Verdict.{Reply, refused, replied, accepted, Check, verdict}
 use Rattle.state.specs.Checks.{commandTooHigh, storeWrongSize, stateBroken, commandNotOpen}
 use Rattle.cache.specs.declared.end.EndAnswer.{EndAnswer}
 use Rattle.cache.specs.declared.end.EndAnswer.the-variants.{Done, Refused}
-use Rattle.cache.specs.declared.end.Ended.{Ended}
-use Rattle.cache.specs.Store.{zeroed}
+use Rattle.store.specs.Store.{zeroed}
 
-module _ (s : CacheState) (storeLen c : ℕ) where
+module _ (s : State) (storeLen c : ℕ) where
   -- 6, 8, 20, 21
   abbrev pub endChecks : List Check
   endChecks = commandTooHigh c ∷ storeWrongSize storeLen ∷ stateBroken s ∷ commandNotOpen s c ∷ []
@@ -24,10 +23,10 @@ module _ (s : CacheState) (storeLen c : ℕ) where
   unfoldable pub endSays : Reply
   endSays = let rs = recordsOf s c in verdict endChecks (replied (length rs ∷ total rs ∷ []))
 
-  unfoldable pub endState : CacheState
+  unfoldable pub endState : State
   endState = cond (accepted endSays) (withCommand s c closed) s
 
-unfoldable pub endStore : CacheState → List ℕ → ℕ → List ℕ
+unfoldable pub endStore : State → List ℕ → ℕ → List ℕ
 endStore s store c = cond (accepted (endSays s (length store) c)) (zeroed store c) store
 
 -- what each answer of the code stands for
@@ -35,8 +34,9 @@ abbrev pub endReply : EndAnswer → Reply
 endReply (Done records bytes) = replied (records ∷ bytes ∷ [])
 endReply (Refused r) = refused (number r)
 
--- the call: its answer, the state and the store after it
-pub record Ends (s : CacheState) (store : List ℕ) (c : ℕ) (r : Ended) (store′ : List ℕ) : Type 0 where
-  pub answer : endReply (r .answer) ≡ endSays s (length store) c
-  pub state : r .state ≡ endState s (length store) c
-  pub bytes : store′ ≡ endStore s store c
+-- the call: its answer, the state and the store after it; refused, it leaves the very words
+pub record Ends (words store : List ℕ) (c : ℕ) (r : EndAnswer) (words′ store′ : List ℕ) : Type 0 where
+  pub answer : endReply r ≡ endSays (stateOf words) (length store) c
+  pub state : stateOf words′ ≡ endState (stateOf words) (length store) c
+  pub kept : accepted (endSays (stateOf words) (length store) c) ≡ false → words′ ≡ words
+  pub bytes : store′ ≡ endStore (stateOf words) store c

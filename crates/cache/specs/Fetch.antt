@@ -1,25 +1,17 @@
 -- 01's fetch: the span goes to the destination, and its bytes are held. The answer and the state depend on the lengths of the
 -- buffers and on no byte in them.
 use Prim.Native.Nat.{ℕ, _-_}
-use mathlib.Core.Path.{_≡_}
 use mathlib.Core.List.{List, [], _∷_, _++_, map}
 use mathlib.Core.Bool.{cond}
 use lib.ListN.{length}
 use Rattle.octets.specs.Lists.{overwrite}
-use Rattle.state.specs.declared.CacheState.{CacheState}
-use Rattle.state.specs.Records.{span, addresses, fresh, joined}
-use Rattle.state.specs.State.{recordsOf, open-with, withCommand}
-use Rattle.state.specs.Refusals.{number}
-use Rattle.state.specs.Verdict.{Reply, refused, replied, accepted, Check, verdict}
+use Rattle.state.specs.Records.{span, fresh, joined}
+use Rattle.state.specs.State.{State, recordsOf, open-with, withCommand}
+use Rattle.state.specs.Verdict.{Reply, replied, accepted, Check, verdict}
 use Rattle.state.specs.Checks.{lengthTooLong, commandTooHigh, windowTooLong, storeWrongSize, outsideWindow, bufferTooShort, stateBroken, commandNotOpen, tooManyBytes, tooManyRecords}
-use Rattle.cache.specs.declared.fetch.FetchAnswer.{FetchAnswer}
-use Rattle.cache.specs.declared.fetch.FetchAnswer.the-variants.{Done, Refused}
-use Rattle.cache.specs.declared.fetch.Fetched.{Fetched}
-use Rattle.cache.specs.declared.fetch.Admission.{Admission}
-use Rattle.cache.specs.declared.fetch.Admission.the-variants.{Admitted, Barred}
-use Rattle.cache.specs.Store.{partStart, sees}
+use Rattle.store.specs.Store.{location, packed, byteAt, sees}
 
-module _ (s : CacheState) (storeLen windowLen destLen c a n : ℕ) where
+module _ (s : State) (storeLen windowLen destLen c a n : ℕ) where
   -- 4, 6 to 10, 20, 21, which are judged before the records are searched
   abbrev pub admitChecks : List Check
   admitChecks =
@@ -34,35 +26,19 @@ module _ (s : CacheState) (storeLen windowLen destLen c a n : ℕ) where
   unfoldable pub fetchSays : Reply
   fetchSays = let f = fresh (recordsOf s c) a n in verdict fetchChecks (replied (f ∷ (n - f) ∷ []))
 
-  unfoldable pub fetchState : CacheState
+  unfoldable pub fetchState : State
   fetchState = cond (accepted fetchSays) (withCommand s c (open-with (joined (recordsOf s c) a n))) s
 
-module _ (s : CacheState) (store window dest : List ℕ) (c a n : ℕ) where
+module _ (s : State) (store window dest : List ℕ) (c a n : ℕ) where
   -- the bytes of the joined records, as the command sees them, go to the front of its part; the places behind them stay
   unfoldable pub fetchStore : List ℕ
   fetchStore =
       let rs = recordsOf s c in
       cond (accepted (fetchSays s (length store) (length window) (length dest) c a n))
-      (overwrite store (partStart c) (map (sees rs c store window) (addresses (joined rs a n)))) store
+      (packed store c (joined rs a n) (sees rs (location s c) store (byteAt window))) store
 
   -- the bytes of the span, as the command sees them, go to the front of the destination; the places behind them stay
   unfoldable pub fetchDest : List ℕ
   fetchDest =
       cond (accepted (fetchSays s (length store) (length window) (length dest) c a n))
-      (overwrite dest 0 (map (sees (recordsOf s c) c store window) (span a n))) dest
-
--- what each answer of the code stands for
-abbrev pub fetchReply : FetchAnswer → Reply
-fetchReply (Done fresh replayed) = replied (fresh ∷ replayed ∷ [])
-fetchReply (Refused r) = refused (number r)
-
-abbrev pub admissionReply : Admission → Reply
-admissionReply Admitted = replied []
-admissionReply (Barred r) = refused (number r)
-
--- the call: its answer, the state, the store and the destination after it
-pub record Fetches (s : CacheState) (store window dest : List ℕ) (c a n : ℕ) (r : Fetched) (store′ dest′ : List ℕ) : Type 0 where
-  pub answer : fetchReply (r .answer) ≡ fetchSays s (length store) (length window) (length dest) c a n
-  pub state : r .state ≡ fetchState s (length store) (length window) (length dest) c a n
-  pub bytes : store′ ≡ fetchStore s store window dest c a n
-  pub delivered : dest′ ≡ fetchDest s store window dest c a n
+      (overwrite dest 0 (map (sees (recordsOf s c) (location s c) store (byteAt window)) (span a n))) dest

@@ -1,9 +1,8 @@
-pub mod Store
 pub mod Begin
-pub mod Hold
 pub mod Fetch
 pub mod End
 pub mod HostWrite
 pub mod OwnWrite
 pub mod Show
 pub mod Order
+pub mod Runs

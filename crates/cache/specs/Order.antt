@@ -5,9 +5,8 @@ use mathlib.Core.List.{List, [], _∷_, map}
 use mathlib.Core.Bool.{true}
 use lib.ListN.{length, getD}
 use Rattle.octets.specs.Lists.{all}
-use Rattle.state.specs.declared.CacheState.{CacheState}
 use Rattle.state.specs.Records.{total, fresh}
-use Rattle.state.specs.State.{recordsOf, noRecord}
+use Rattle.state.specs.State.{State, recordsOf, noRecord}
 use Rattle.state.specs.Verdict.{replied, Check, numbers, applying, ascendFrom, lowestOr}
 use Rattle.cache.specs.Begin.{beginChecks, beginSays}
 use Rattle.cache.specs.Fetch.{fetchChecks, fetchSays}
@@ -16,7 +15,7 @@ use Rattle.cache.specs.HostWrite.{hostChecks, hostSays}
 use Rattle.cache.specs.OwnWrite.{ownChecks, ownSays}
 use Rattle.cache.specs.Show.{showChecks, showSays}
 
-module _ (s : CacheState) (storeLen windowLen destLen c a n i : ℕ) where
+module _ (s : State) (storeLen windowLen destLen c a n i : ℕ) where
   -- the checks of the calls, in the order in which 01 names them
   abbrev pub allChecks : List (List Check)
   allChecks =

@@ -2,15 +2,14 @@
 use Prim.Native.Nat.{ℕ}
 use mathlib.Core.List.{List, [], _∷_}
 use lib.ListN.{getD}
-use Rattle.state.specs.declared.CacheState.{CacheState}
-use Rattle.state.specs.State.{recordsOf, noRecord}
+use Rattle.state.specs.State.{State, recordsOf, noRecord}
 use Rattle.state.specs.Refusals.{number}
 use Rattle.state.specs.Verdict.{Reply, refused, replied, Check, verdict}
 use Rattle.state.specs.Checks.{commandTooHigh, stateBroken, commandNotOpen, noSuchRecord}
 use Rattle.cache.specs.declared.show.ShowAnswer.{ShowAnswer}
 use Rattle.cache.specs.declared.show.ShowAnswer.the-variants.{Record, Refused}
 
-module _ (s : CacheState) (c i : ℕ) where
+module _ (s : State) (c i : ℕ) where
   -- 6, 20, 21, 25
   abbrev pub showChecks : List Check
   showChecks = commandTooHigh c ∷ stateBroken s ∷ commandNotOpen s c ∷ noSuchRecord (recordsOf s c) i ∷ []

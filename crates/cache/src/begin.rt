@@ -1,24 +1,23 @@
 // Begin: a closed command is opened with no records, and its part of the store is zeroed.
 ghost use mathlib.Core.Path.{_≡_};
+ghost use lib.ListN.{length};
+ghost use Rattle.state.specs.Limits.{stateWords};
+ghost use Rattle.state.specs.Words.{stateOf};
 ghost use Rattle.cache.specs.Begin.{beginSays, beginReply, Begins};
-use crate::part;
 use state::CacheState;
-use state::CommandState;
 use state::Refusal;
+use store::part;
+use words::command::is_open;
+use words::command::reset;
 
 pub enum BeginAnswer {
     Done,
     Refused(Refusal),
 }
 
-// The answer, and the state after the call.
-pub struct Begun {
-    pub answer: BeginAnswer,
-    pub state: CacheState,
-}
-
-fn judge(state: CacheState, store_len: usize, command: usize) -> BeginAnswer
-    ensures { λ r. ⌜ beginReply r ≡ beginSays state «store_len» command ⌝ }
+fn judge(state: &[u16], store_len: usize, command: usize) -> BeginAnswer
+    requires { ⌜ length (now state) ≡ stateWords ⌝ }
+    ensures { λ r. ⌜ beginReply r ≡ beginSays (stateOf (now (state .entry))) «store_len» command ⌝ }
 {
     if CacheState::COMMANDS <= command {
         return BeginAnswer::Refused(Refusal::CommandTooHigh);
@@ -26,35 +25,34 @@ fn judge(state: CacheState, store_len: usize, command: usize) -> BeginAnswer
     if store_len != CacheState::STORE {
         return BeginAnswer::Refused(Refusal::StoreWrongSize);
     }
-    if !state.holds() {
+    if !words::holds::holds(state) {
         return BeginAnswer::Refused(Refusal::StateBroken);
     }
-    let c = state.commands[command];
-    let opened = c.opened;
-    if opened {
+    if is_open(state, command) {
         return BeginAnswer::Refused(Refusal::CommandAlreadyOpen);
     }
     BeginAnswer::Done
 }
 
-pub fn begin(state: CacheState, store: &mut [u8], command: usize) -> Begun
-    ensures { λ r. ⌜ Begins state (now (store .entry)) command r (now (store .exit)) ⌝ }
+// The call, once the array is lent as a slice, of which parts can be lent.
+fn begin_words(state: &mut [u16], store: &mut [u8], command: usize) -> BeginAnswer
+    requires { ⌜ length (now state) ≡ stateWords ⌝ }
+    ensures { λ r. ⌜ Begins (now (state .entry)) (now (store .entry)) command r (now (state .exit)) (now (store .exit)) ⌝ }
 {
     let answer = judge(state, store.len(), command);
     match answer {
-        BeginAnswer::Refused(why) => Begun {
-            answer: BeginAnswer::Refused(why),
-            state,
-        },
+        BeginAnswer::Refused(why) => BeginAnswer::Refused(why),
         BeginAnswer::Done => {
             part::zero(store, command);
-            let opened = CommandState::empty(true);
-            let mut next = state;
-            next.commands[command] = opened;
-            Begun {
-                answer: BeginAnswer::Done,
-                state: next,
-            }
+            let low = CacheState::COMMAND_WORDS * command;
+            reset(&mut state[low..low + CacheState::COMMAND_WORDS], true);
+            BeginAnswer::Done
         }
     }
+}
+
+pub fn begin(state: &mut [u16; CacheState::WORDS], store: &mut [u8], command: usize) -> BeginAnswer
+    ensures { λ r. ⌜ Begins (now (state .entry)) (now (store .entry)) command r (now (state .exit)) (now (store .exit)) ⌝ }
+{
+    begin_words(state, store, command)
 }

@@ -1,10 +1,16 @@
 // End: an open command is closed, its records are dropped, and its part of the store is zeroed.
 ghost use mathlib.Core.Path.{_≡_};
+ghost use lib.ListN.{length};
+ghost use Rattle.state.specs.Limits.{stateWords};
+ghost use Rattle.state.specs.Words.{stateOf};
 ghost use Rattle.cache.specs.End.{endSays, endReply, Ends};
-use crate::part;
 use state::CacheState;
-use state::CommandState;
 use state::Refusal;
+use store::part;
+use words::command::is_open;
+use words::command::reset;
+use words::entries::used;
+use words::search::held_from;
 
 pub enum EndAnswer {
     // how many records and distinct bytes the command had
@@ -12,14 +18,9 @@ pub enum EndAnswer {
     Refused(Refusal),
 }
 
-// The answer, and the state after the call.
-pub struct Ended {
-    pub answer: EndAnswer,
-    pub state: CacheState,
-}
-
-fn judge(state: CacheState, store_len: usize, command: usize) -> EndAnswer
-    ensures { λ r. ⌜ endReply r ≡ endSays state «store_len» command ⌝ }
+fn judge(state: &[u16], store_len: usize, command: usize) -> EndAnswer
+    requires { ⌜ length (now state) ≡ stateWords ⌝ }
+    ensures { λ r. ⌜ endReply r ≡ endSays (stateOf (now (state .entry))) «store_len» command ⌝ }
 {
     if CacheState::COMMANDS <= command {
         return EndAnswer::Refused(Refusal::CommandTooHigh);
@@ -27,38 +28,39 @@ fn judge(state: CacheState, store_len: usize, command: usize) -> EndAnswer
     if store_len != CacheState::STORE {
         return EndAnswer::Refused(Refusal::StoreWrongSize);
     }
-    if !state.holds() {
+    if !words::holds::holds(state) {
         return EndAnswer::Refused(Refusal::StateBroken);
     }
-    let c = state.commands[command];
-    let opened = c.opened;
-    if !opened {
+    if !is_open(state, command) {
         return EndAnswer::Refused(Refusal::CommandNotOpen);
     }
+    let low = CacheState::COMMAND_WORDS * command;
+    let own = &state[low..low + CacheState::COMMAND_WORDS];
     EndAnswer::Done {
-        records: c.used(),
-        bytes: c.held_from(0),
+        records: used(own),
+        bytes: held_from(own, 0),
     }
 }
 
-pub fn end(state: CacheState, store: &mut [u8], command: usize) -> Ended
-    ensures { λ r. ⌜ Ends state (now (store .entry)) command r (now (store .exit)) ⌝ }
+// The call, once the array is lent as a slice, of which parts can be lent.
+fn end_words(state: &mut [u16], store: &mut [u8], command: usize) -> EndAnswer
+    requires { ⌜ length (now state) ≡ stateWords ⌝ }
+    ensures { λ r. ⌜ Ends (now (state .entry)) (now (store .entry)) command r (now (state .exit)) (now (store .exit)) ⌝ }
 {
     let answer = judge(state, store.len(), command);
     match answer {
-        EndAnswer::Refused(why) => Ended {
-            answer: EndAnswer::Refused(why),
-            state,
-        },
+        EndAnswer::Refused(why) => EndAnswer::Refused(why),
         EndAnswer::Done { records, bytes } => {
             part::zero(store, command);
-            let closed = CommandState::empty(false);
-            let mut next = state;
-            next.commands[command] = closed;
-            Ended {
-                answer: EndAnswer::Done { records, bytes },
-                state: next,
-            }
+            let low = CacheState::COMMAND_WORDS * command;
+            reset(&mut state[low..low + CacheState::COMMAND_WORDS], false);
+            EndAnswer::Done { records, bytes }
         }
     }
+}
+
+pub fn end(state: &mut [u16; CacheState::WORDS], store: &mut [u8], command: usize) -> EndAnswer
+    ensures { λ r. ⌜ Ends (now (state .entry)) (now (store .entry)) command r (now (state .exit)) (now (store .exit)) ⌝ }
+{
+    end_words(state, store, command)
 }

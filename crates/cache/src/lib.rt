@@ -1,11 +1,9 @@
-// The calls of the fetch cache, a module each. A call takes any state, any buffers and any numbers, and answers with what it did or
-// with the refusal of the lowest number that applies. Definitions in specs/ say what each answers and leaves.
+// The calls of the fetch cache but fetch, a module each. A call takes any words for the state, any buffers and any numbers, and answers
+// with what it did or with the refusal of the lowest number that applies. Definitions in specs/ say what each call answers and leaves,
+// fetch among them, whose code is the crate `fetch`, and what a list of calls does.
 pub mod begin;
 pub mod end;
-pub mod fetch;
-mod hold;
 pub mod host_write;
 pub mod own_write;
-mod part;
-mod range;
+pub mod range;
 pub mod show;

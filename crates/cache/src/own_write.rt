@@ -1,21 +1,25 @@
 // Own write: the same by an open command. The state is only looked at.
 ghost use mathlib.Core.Path.{_≡_};
 ghost use lib.ListN.{length};
+ghost use Rattle.state.specs.Limits.{stateWords};
+ghost use Rattle.state.specs.Words.{stateOf};
 ghost use Rattle.cache.specs.HostWrite.{writeReply};
 ghost use Rattle.cache.specs.OwnWrite.{ownSays, ownWindow};
 use crate::host_write::WriteAnswer;
 use crate::range;
 use state::CacheState;
 use state::Refusal;
+use words::command::is_open;
 
 fn judge(
-    state: CacheState,
+    state: &[u16],
     window_len: usize,
     command: usize,
     address: usize,
     size: usize,
 ) -> WriteAnswer
-    ensures { λ r. ⌜ writeReply r ≡ ownSays state «window_len» command address size ⌝ }
+    requires { ⌜ length (now state) ≡ stateWords ⌝ }
+    ensures { λ r. ⌜ writeReply r ≡ ownSays (stateOf (now (state .entry))) «window_len» command address size ⌝ }
 {
     if CacheState::TRANSFER < size {
         return WriteAnswer::Refused(Refusal::LengthTooLong);
@@ -29,26 +33,24 @@ fn judge(
     if range::outside(window_len, address, size) {
         return WriteAnswer::Refused(Refusal::OutsideWindow);
     }
-    if !state.holds() {
+    if !words::holds::holds(state) {
         return WriteAnswer::Refused(Refusal::StateBroken);
     }
-    let c = state.commands[command];
-    let opened = c.opened;
-    if !opened {
+    if !is_open(state, command) {
         return WriteAnswer::Refused(Refusal::CommandNotOpen);
     }
     WriteAnswer::Done(size)
 }
 
 pub fn own_write(
-    state: CacheState,
+    state: &[u16; CacheState::WORDS],
     window: &mut [u8],
     command: usize,
     address: usize,
     bytes: &[u8],
 ) -> WriteAnswer
-    ensures reply { λ r. ⌜ writeReply r ≡ ownSays state (length (now (window .entry))) command address (length (now (bytes .entry))) ⌝ }
-    ensures window { λ _. ⌜ now (window .exit) ≡ ownWindow state (now (window .entry)) command address (now (bytes .entry)) ⌝ }
+    ensures reply { λ r. ⌜ writeReply r ≡ ownSays (stateOf (now (state .entry))) (length (now (window .entry))) command address (length (now (bytes .entry))) ⌝ }
+    ensures window { λ _. ⌜ now (window .exit) ≡ ownWindow (stateOf (now (state .entry))) (now (window .entry)) command address (now (bytes .entry)) ⌝ }
 {
     let answer = judge(state, window.len(), command, address, bytes.len());
     let WriteAnswer::Done(_) = answer else {

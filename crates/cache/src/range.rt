@@ -4,7 +4,7 @@ ghost use Prim.Native.Nat.{_+_};
 ghost use lib.Dec.{ltb};
 
 // By the true sum of address and length: it is not formed, so it cannot wrap.
-pub(crate) fn outside(window_len: usize, address: usize, size: usize) -> bool
+pub fn outside(window_len: usize, address: usize, size: usize) -> bool
     ensures { λ r. ⌜ r ≡ ltb «window_len» (address + size) ⌝ }
 {
     if window_len < size {

@@ -1,34 +1,47 @@
 // Show: a record of an open command.
 ghost use mathlib.Core.Path.{_≡_};
+ghost use lib.ListN.{length};
+ghost use Rattle.state.specs.Limits.{stateWords};
+ghost use Rattle.state.specs.Words.{stateOf};
 ghost use Rattle.cache.specs.Show.{showSays, showReply};
 use state::CacheState;
 use state::Refusal;
+use words::command::is_open;
+use words::entries::entry;
+use words::entries::used;
 
 pub enum ShowAnswer {
     Record { start: u16, len: u16 },
     Refused(Refusal),
 }
 
-pub fn show(state: CacheState, command: usize, index: usize) -> ShowAnswer
-    ensures { λ r. ⌜ showReply r ≡ showSays state command index ⌝ }
+fn look(state: &[u16], command: usize, index: usize) -> ShowAnswer
+    requires { ⌜ length (now state) ≡ stateWords ⌝ }
+    ensures { λ r. ⌜ showReply r ≡ showSays (stateOf (now (state .entry))) command index ⌝ }
 {
     if CacheState::COMMANDS <= command {
         return ShowAnswer::Refused(Refusal::CommandTooHigh);
     }
-    if !state.holds() {
+    if !words::holds::holds(state) {
         return ShowAnswer::Refused(Refusal::StateBroken);
     }
-    let c = state.commands[command];
-    let opened = c.opened;
-    if !opened {
+    if !is_open(state, command) {
         return ShowAnswer::Refused(Refusal::CommandNotOpen);
     }
-    if c.used() <= index {
+    let low = CacheState::COMMAND_WORDS * command;
+    let own = &state[low..low + CacheState::COMMAND_WORDS];
+    if used(own) <= index {
         return ShowAnswer::Refused(Refusal::NoSuchRecord);
     }
-    let r = c.records[index];
+    let r = entry(own, index);
     ShowAnswer::Record {
         start: r.start,
         len: r.len,
     }
+}
+
+pub fn show(state: &[u16; CacheState::WORDS], command: usize, index: usize) -> ShowAnswer
+    ensures { λ r. ⌜ showReply r ≡ showSays (stateOf (now (state .entry))) command index ⌝ }
+{
+    look(state, command, index)
 }

@@ -26,7 +26,7 @@ fn print_log(input: &[u8]) {
         let r = journal::log_frame(
             number + 1,
             &input[at..],
-            state,
+            &mut state.words,
             &mut store,
             &mut window,
             &mut destination,
@@ -39,8 +39,6 @@ fn print_log(input: &[u8]) {
         if taken == 0 {
             return;
         }
-        let after = r.state;
-        state = after;
         number = number + 1;
         at = at + taken;
     }

@@ -6,7 +6,7 @@ use mathlib.Core.List.{List, [], _∷_, map}
 use mathlib.Core.Bool.{Bool, true, false}
 use lib.ListN.{length, length-replicate}
 use Rattle.octets.proofs.Lists.{cons-head, cons-tail}
-use Rattle.history.specs.Runs.{Call, begin, fetch, end, hostWrite, ownWrite, show, Machine, says, stateAfter}
+use Rattle.cache.specs.Runs.{Call, begin, fetch, end, hostWrite, ownWrite, show, Machine, says, stateAfter}
 use Rattle.history.specs.Journal.{Deed, fetched, deedOf}
 use Rattle.history.specs.Claims.{common}
 

@@ -12,11 +12,12 @@ use Rattle.state.specs.State.{recordsOf, recordsIn, open-with, hasShape}
 use Rattle.state.specs.Verdict.{accepted}
 use Rattle.state.proofs.Places.{length-span}
 use Rattle.state.proofs.Commands.{command-same, records-open-with, eight}
-use Rattle.cache.specs.Store.{partStart, sees}
+use Rattle.words.proofs.StateWords.{shape-of}
+use Rattle.store.specs.Store.{partStart, location, byteAt, sees}
 use Rattle.cache.specs.Fetch.{fetchDest}
 use Rattle.cache.proofs.Accepted.{Fetched, fetched}
-use Rattle.history.specs.Runs.{fetch, Machine, says, stateAfter, storeAfter, destAfter}
-use Rattle.history.specs.Claims.{Beyond, BeyondUnchanged}
+use Rattle.cache.specs.Runs.{fetch, Machine, says, stateAfter, storeAfter, destAfter}
+use Rattle.history.specs.Claims.{given, Beyond, BeyondUnchanged}
 use Rattle.history.proofs.Effects.{refused-same, old, grown, packed, fetch-after, packed-fits, length-packed}
 use Rattle.history.proofs.Unchanged.{refused-unchanged}
 
@@ -47,8 +48,8 @@ module _ (m : Machine) (c a n : ℕ) (dest window : List ℕ) (shape : hasShape 
   dest-rest : drop n (destAfter m (fetch c a n dest window)) ≡ drop n dest
   unfolding fetchDest
   dest-rest =
-      let delivered = map (sees (old m c) c (m .store) window) (span a n) in
-      rw e (overwrite-rest dest delivered n (length-map (span a n) (sees (old m c) c (m .store) window) ∙ length-span a n))
+      let delivered = map (sees (old m c) (location (m .state) c) (m .store) (byteAt window)) (span a n) in
+      rw e (overwrite-rest dest delivered n (length-map (span a n) (sees (old m c) (location (m .state) c) (m .store) (byteAt window)) ∙ length-span a n))
 
   beyond-accepted : Beyond m c a n dest window
   beyond-accepted = record {
@@ -58,8 +59,14 @@ module _ (m : Machine) (c a n : ℕ) (dest window : List ℕ) (shape : hasShape 
   }
 
 pub beyond-unchanged : BeyondUnchanged
-beyond-unchanged m c a n dest window shape = go (accepted (says m (fetch c a n dest window))) refl
+beyond-unchanged words store c a n dest window = go (accepted (says m (fetch c a n dest window))) refl
   where
+    m : Machine
+    m = given words store
+
+    shape : hasShape (m .state) ≡ true
+    shape = shape-of words
+
     go : (b : Bool) → accepted (says m (fetch c a n dest window)) ≡ b → Beyond m c a n dest window
     go true e = beyond-accepted m c a n dest window shape e
     go false e =

@@ -10,15 +10,15 @@ use lib.ListN.{length}
 use borrow.Author.Tests.{eqb-true, eqb-false, eq-eqb, ne-eqb}
 use Rattle.octets.proofs.Lists.{getD-same}
 use Rattle.state.specs.declared.Record.{Record}
-use Rattle.state.specs.declared.CommandState.{CommandState}
 use Rattle.state.specs.Limits.{commandLimit}
 use Rattle.state.specs.Records.{held, span, total, countFresh}
-use Rattle.state.specs.State.{commandOf, recordsIn, withCommand, open-with, closed}
+use Rattle.state.specs.State.{CommandState, commandOf, recordsIn, withCommand, open-with, closed}
 use Rattle.state.specs.Verdict.{accepted}
 use Rattle.state.proofs.Laws.{total-joined}
 use Rattle.state.proofs.Commands.{command-same, command-other, records-open-with, kept, eight}
+use Rattle.store.specs.Store.{location}
 use Rattle.cache.proofs.Accepted.{ended-open, ended-reply, fetched, fetched-reply}
-use Rattle.history.specs.Runs.{Call, begin, fetch, end, hostWrite, ownWrite, show, Machine, start, says, after, along}
+use Rattle.cache.specs.Runs.{Call, begin, fetch, end, hostWrite, ownWrite, show, Machine, start, says, after, along}
 use Rattle.history.specs.Journal.{Event, event, told, deedOf}
 use Rattle.history.specs.Firsts.{Value, Memory, memory, firstsAmong}
 use Rattle.history.specs.Counts.{countsIn, countsReplied, countsBy, countsOwed, bytesIn, bytesReplied, add, freshSince, sumBy, sumOwed}
@@ -29,7 +29,7 @@ use Rattle.history.proofs.Sound.{stored, Sound, sound-start, sound-afte
 
 -- Fresh is the number of first fetches: an address is in no record exactly if the memory has none.
 
-module _ (rs : List Record) (c : ℕ) (store window : List ℕ) (known : ℕ → Value) (same : (x : ℕ) → known x ≡ stored rs c store x) where
+module _ (rs : List Record) (location : ℕ → ℕ) (store window : List ℕ) (known : ℕ → Value) (same : (x : ℕ) → known x ≡ stored rs location store x) where
   count-firsts : (xs : List ℕ) → countFresh rs xs ≡ length (firstsAmong known window xs)
   unfolding countFresh firstsAmong
   count-firsts [] = refl
@@ -45,7 +45,7 @@ counts-here m mem p false e S = refl
 counts-here m mem (begin c) true e S = refl
 counts-here m mem (fetch c a n dest window) true e S =
     let F = fetched (m .state) (length (m .store)) (length window) (length dest) c a n e in
-    let same = count-firsts (old m c) c (m .store) window (mem c) (λ x. S .known c x (F .opened)) (span a n) in
+    let same = count-firsts (old m c) (location (m .state) c) (m .store) window (mem c) (λ x. S .known c x (F .opened)) (span a n) in
     rw (fetched-reply (m .state) (length (m .store)) (length window) (length dest) c a n e, same)
 counts-here m mem (end c) true e S = refl
 counts-here m mem (hostWrite a bytes window) true e S = refl

@@ -8,10 +8,10 @@ use Rattle.octets.proofs.Overwrite.{overwrite-front}
 use Rattle.state.specs.Records.{held, place, span}
 use Rattle.state.specs.Verdict.{accepted}
 use Rattle.state.proofs.Places.{length-span}
-use Rattle.cache.specs.Store.{partStart, sees}
+use Rattle.store.specs.Store.{partStart, location, byteAt, sees}
 use Rattle.cache.specs.Fetch.{fetchDest}
 use Rattle.cache.proofs.Accepted.{fetched}
-use Rattle.history.specs.Runs.{Call, begin, fetch, end, hostWrite, ownWrite, show, Machine, start, along, says, after, destAfter, delivers}
+use Rattle.cache.specs.Runs.{Call, begin, fetch, end, hostWrite, ownWrite, show, Machine, start, along, says, after, destAfter, delivers}
 use Rattle.history.specs.Journal.{deedOf}
 use Rattle.history.specs.Firsts.{none, first, orElse, Memory, remember, memory, recall, owedBy}
 use Rattle.history.specs.Claims.{DeliveryRule}
@@ -22,11 +22,11 @@ use Rattle.history.proofs.Memories.{alongMemory, told-memory}
 -- the front of the destination is the span as the command sees it
 dest-front :
     (m : Machine) (c a n : ℕ) (dest window : List ℕ) → accepted (says m (fetch c a n dest window)) ≡ true
-    → take n (destAfter m (fetch c a n dest window)) ≡ map (sees (old m c) c (m .store) window) (span a n)
+    → take n (destAfter m (fetch c a n dest window)) ≡ map (sees (old m c) (location (m .state) c) (m .store) (byteAt window)) (span a n)
 unfolding fetchDest
 dest-front m c a n dest window e =
-    let bytes = map (sees (old m c) c (m .store) window) (span a n) in
-    rw e (overwrite-front dest bytes n (length-map (span a n) (sees (old m c) c (m .store) window) ∙ length-span a n))
+    let bytes = map (sees (old m c) (location (m .state) c) (m .store) (byteAt window)) (span a n) in
+    rw e (overwrite-front dest bytes n (length-map (span a n) (sees (old m c) (location (m .state) c) (m .store) (byteAt window)) ∙ length-span a n))
 
 seen : (h : Bool) (u w : ℕ) → cond h u w ≡ recall (orElse (cond h (first u) none) w)
 seen true u w = refl

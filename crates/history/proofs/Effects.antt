@@ -7,19 +7,18 @@ use mathlib.Core.Bool.{Bool, true, false}
 use lib.ListN.{length, replicate, length-map, length-replicate}
 use borrow.Author.Tests.{eq-eqb}
 use Rattle.state.specs.declared.Record.{Record}
-use Rattle.state.specs.declared.CommandState.{CommandState}
 use Rattle.state.specs.Limits.{heldLimit, recordLimit}
 use Rattle.state.specs.Records.{total, addresses, joined}
-use Rattle.state.specs.State.{recordsOf, open-with, closed, ascending, commandHolds}
+use Rattle.state.specs.State.{CommandState, recordsOf, open-with, closed, ascending, commandHolds}
 use Rattle.state.specs.Verdict.{accepted}
 use Rattle.state.proofs.Laws.{ascending-joined, total-joined, length-addresses}
 use Rattle.state.proofs.Commands.{closed-holds, open-with-holds, length-open-with, kept}
-use Rattle.cache.specs.Store.{sees}
+use Rattle.store.specs.Store.{location, byteAt, sees}
 use Rattle.cache.specs.Begin.{beginState, beginStore}
 use Rattle.cache.specs.Fetch.{fetchState, fetchStore}
 use Rattle.cache.specs.End.{endState, endStore}
 use Rattle.cache.proofs.Accepted.{Ready, begun, ended, Fetched, fetched}
-use Rattle.history.specs.Runs.{Call, begin, fetch, end, hostWrite, ownWrite, show, Machine, says, storeAfter, after}
+use Rattle.cache.specs.Runs.{Call, begin, fetch, end, hostWrite, ownWrite, show, Machine, says, storeAfter, after}
 use Rattle.history.specs.Claims.{mayChange}
 use Rattle.history.proofs.Replaced.{replaced, Fits, length-replaced}
 
@@ -40,7 +39,7 @@ abbrev pub grown : Machine → (c a n : ℕ) → List Record
 grown m c a n = joined (old m c) a n
 
 abbrev pub packed : Machine → (c a n : ℕ) → List ℕ → List ℕ
-packed m c a n window = map (sees (old m c) c (m .store) window) (addresses (grown m c a n))
+packed m c a n window = map (sees (old m c) (location (m .state) c) (m .store) (byteAt window)) (addresses (grown m c a n))
 
 abbrev pub zeros : List ℕ
 zeros = replicate heldLimit 0

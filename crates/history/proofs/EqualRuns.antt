@@ -10,9 +10,9 @@ use Rattle.state.specs.Records.{inSpan, held, span}
 use Rattle.state.specs.State.{isOpen}
 use Rattle.state.specs.Verdict.{accepted}
 use Rattle.state.proofs.Laws.{held-joined, map-held}
-use Rattle.cache.specs.Store.{partStart, sees}
+use Rattle.store.specs.Store.{partStart, location, byteAt, sees}
 use Rattle.cache.proofs.Accepted.{fetched}
-use Rattle.history.specs.Runs.{Call, fetch, Machine, start, along, says, stateAfter, storeAfter, after}
+use Rattle.cache.specs.Runs.{Call, fetch, Machine, start, along, says, stateAfter, storeAfter, after}
 use Rattle.history.specs.Journal.{Deed, deedOf}
 use Rattle.history.specs.Firsts.{none, Memory, remember, memory, firstsBy, recall, owedBy}
 use Rattle.history.specs.Claims.{EqualRunsRule}
@@ -75,10 +75,10 @@ firsts-carry d e mem (fetching {c} {a} {n} {w} {v}) h =
 
 module _ (m : Machine) (mem : Memory) (S : Sound m mem) (c a n : ℕ) (w v : List ℕ) (opened : isOpen (m .state) c ≡ true)
     (values : map (value (mem c) w) (span a n) ≡ map (value (mem c) v) (span a n)) where
-  sees-equal : (x : ℕ) → held (grown m c a n) x ≡ true → sees (old m c) c (m .store) w x ≡ sees (old m c) c (m .store) v x
+  sees-equal : (x : ℕ) → held (grown m c a n) x ≡ true → sees (old m c) (location (m .state) c) (m .store) (byteAt w) x ≡ sees (old m c) (location (m .state) c) (m .store) (byteAt v) x
   sees-equal x h = go (held (old m c) x) refl
     where
-      go : (b : Bool) → held (old m c) x ≡ b → sees (old m c) c (m .store) w x ≡ sees (old m c) c (m .store) v x
+      go : (b : Bool) → held (old m c) x ≡ b → sees (old m c) (location (m .state) c) (m .store) (byteAt w) x ≡ sees (old m c) (location (m .state) c) (m .store) (byteAt v) x
       go true e = rw e
       go false e =
           let near : inSpan a n x ≡ true = rw (held-joined (old m c) a n x, e) at h in

@@ -5,9 +5,7 @@ use mathlib.Core.Logic.{_≢_}
 use mathlib.Core.List.{List, [], _∷_}
 use mathlib.Core.Bool.{true}
 use Rattle.octets.specs.Lists.{all}
-use Rattle.state.specs.declared.CommandState.{CommandState}
-use Rattle.state.specs.declared.CacheState.{CacheState}
-use Rattle.state.specs.State.{holds, hasShape}
+use Rattle.state.specs.State.{CommandState, State, holds, hasShape}
 use Rattle.state.specs.Verdict.{refused}
 use Rattle.state.proofs.Verdict.{never-given}
 use Rattle.state.proofs.Commands.{fresh-holds, fresh-shape, holds-with, shape-with}
@@ -17,12 +15,12 @@ use Rattle.cache.specs.End.{endSays}
 use Rattle.cache.specs.HostWrite.{hostSays}
 use Rattle.cache.specs.OwnWrite.{ownSays}
 use Rattle.cache.specs.Show.{showSays}
-use Rattle.history.specs.Runs.{Call, begin, fetch, end, hostWrite, ownWrite, show, Machine, start, says, after, ran}
+use Rattle.cache.specs.Runs.{Call, begin, fetch, end, hostWrite, ownWrite, show, Machine, start, says, after, ran}
 use Rattle.history.specs.Claims.{AlwaysHolds, NeverBroken}
 use Rattle.history.proofs.Replaced.{replaced, Fits}
 use Rattle.history.proofs.Effects.{Effect, nothing, replaces, effect}
 
-pub record Whole (s : CacheState) : Type 0 where
+pub record Whole (s : State) : Type 0 where
   pub whole : holds s ≡ true
   pub shape : hasShape s ≡ true
 

@@ -5,7 +5,7 @@ use mathlib.Core.Logic.{_≢_}
 use mathlib.Core.Bool.{true, false, false≢true}
 use Rattle.state.specs.State.{commandOf}
 use Rattle.state.proofs.Commands.{command-other}
-use Rattle.history.specs.Runs.{Call, Machine}
+use Rattle.cache.specs.Runs.{Call, Machine}
 use Rattle.history.specs.Claims.{mayChange, partIn, Alone, Isolation}
 use Rattle.history.proofs.Replaced.{part-other}
 use Rattle.history.proofs.Effects.{Effect, nothing, replaces, effect}

@@ -2,7 +2,7 @@
 use mathlib.Core.Path.{_≡_, refl, ap}
 use mathlib.Core.List.{List, [], _∷_}
 use Rattle.state.specs.Verdict.{accepted}
-use Rattle.history.specs.Runs.{Call, Machine, says, after, along}
+use Rattle.cache.specs.Runs.{Call, Machine, says, after, along}
 use Rattle.history.specs.Journal.{Event, event, told, Deed, deedOf, deed}
 use Rattle.history.specs.Firsts.{Memory, remember, memory}
 

@@ -10,11 +10,10 @@ use lib.ListN.{length, getD}
 use borrow.Author.Tests.{ltb-true, ltb-false}
 use Rattle.octets.specs.Lists.{overwrite}
 use Rattle.octets.proofs.Overwrite.{length-overwrite, overwrite-below, overwrite-above, part-beside}
-use Rattle.state.specs.declared.CommandState.{CommandState}
 use Rattle.state.specs.Limits.{commandLimit, recordLimit, heldLimit, storeSize}
-use Rattle.state.specs.State.{withCommand, commandHolds, holds}
-use Rattle.cache.specs.Store.{partStart}
-use Rattle.history.specs.Runs.{Machine}
+use Rattle.state.specs.State.{CommandState, withCommand, commandHolds, holds}
+use Rattle.store.specs.Store.{partStart}
+use Rattle.cache.specs.Runs.{Machine}
 use Rattle.history.specs.Claims.{partIn}
 
 abbrev pub replaced : Machine → ℕ → CommandState → List ℕ → Machine

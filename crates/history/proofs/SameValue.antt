@@ -12,15 +12,15 @@ use Rattle.octets.proofs.Lists.{and-left, and-right}
 use Rattle.state.specs.Records.{inSpan, span}
 use Rattle.state.specs.Verdict.{accepted}
 use Rattle.state.proofs.Places.{span-at}
-use Rattle.history.specs.Runs.{fetch, Machine, start, says, after, along, ran, delivers}
+use Rattle.cache.specs.Runs.{fetch, Machine, start, says, after, along, ran, delivers}
 use Rattle.history.specs.Journal.{Event, event, journal, backwards, Deed, began, fetched, ended, other, deed}
 use Rattle.history.specs.Firsts.{Value, none, first, orElse, Memory, remember, memory, recall, owedBy}
-use Rattle.history.specs.Claims.{begins, SameValueRule}
+use Rattle.history.specs.Claims.{renews, SameValueRule}
 use Rattle.history.proofs.Sound.{Sound, sound-start, sound-after, sound-ran}
 use Rattle.history.proofs.Delivery.{delivers-owed}
 
 -- a value once fetched stays until the command begins anew
-stays : (mem : Memory) (d : Deed) (c x v : ℕ) → mem c x ≡ first v → begins c d ≡ false → remember mem d c x ≡ first v
+stays : (mem : Memory) (d : Deed) (c x v : ℕ) → mem c x ≡ first v → renews c x d ≡ false → remember mem d c x ≡ first v
 unfolding remember
 stays mem (began e) c x v known no′ = rw no′ known
 stays mem (fetched e a n window) c x v known no′ = rw known (go (eqb c e && inSpan a n x))
@@ -32,13 +32,13 @@ stays mem (ended e) c x v known no′ = known
 stays mem other c x v known no′ = known
 
 stays-along :
-    (past : List Event) (es : List Event) (c x v : ℕ) → memory past c x ≡ first v → all (λ e. not (begins c (deed e))) es ≡ true
+    (past : List Event) (es : List Event) (c x v : ℕ) → memory past c x ≡ first v → all (λ e. not (renews c x (deed e))) es ≡ true
     → memory (backwards past es) c x ≡ first v
 unfolding backwards memory all
 stays-along past [] c x v known h = known
 stays-along past (e ∷ es) c x v known h =
-    let here = not-true (begins c (deed e)) (and-left (not (begins c (deed e))) (all (λ f. not (begins c (deed f))) es) h) in
-    let rest = and-right (not (begins c (deed e))) (all (λ f. not (begins c (deed f))) es) h in
+    let here = not-true (renews c x (deed e)) (and-left (not (renews c x (deed e))) (all (λ f. not (renews c x (deed f))) es) h) in
+    let rest = and-right (not (renews c x (deed e))) (all (λ f. not (renews c x (deed f))) es) h in
     stays-along (e ∷ past) es c x v (stays (memory past) (deed e) c x v known here) rest
 
 -- the byte delivered for an address of the span
@@ -60,7 +60,7 @@ value-of (first u) w = refl
 
 pub same-value : SameValueRule
 unfolding remember memory
-same-value store before c a n dest window between a′ n′ dest′ window′ taken taken′ unbroken x near near′ =
+same-value store before c a n dest window between a′ n′ dest′ window′ x near near′ taken taken′ unbroken =
     let m = ran (start store) before in
     let past = backwards [] (journal store before) in
     let p = fetch c a n dest window in

@@ -12,16 +12,15 @@ use borrow.Author.Tests.{eqb-true, eqb-false, eq-eqb, ne-eqb}
 use Rattle.octets.proofs.Lists.{getD-same}
 use Rattle.octets.proofs.Overwrite.{overwrite-inside}
 use Rattle.state.specs.declared.Record.{Record}
-use Rattle.state.specs.declared.CommandState.{CommandState}
 use Rattle.state.specs.Limits.{commandLimit, storeSize}
 use Rattle.state.specs.Records.{inSpan, held, place}
-use Rattle.state.specs.State.{commandOf, recordsIn, recordsOf, isOpen, withCommand, closed, open-with}
+use Rattle.state.specs.State.{CommandState, commandOf, recordsIn, recordsOf, isOpen, withCommand, closed, open-with}
 use Rattle.state.specs.Verdict.{accepted}
 use Rattle.state.proofs.Laws.{held-joined, place-below, at-place}
 use Rattle.state.proofs.Commands.{command-same, command-other, records-open-with, Kept, kept, eight}
-use Rattle.cache.specs.Store.{partStart, sees}
+use Rattle.store.specs.Store.{partStart, location, byteAt, sees}
 use Rattle.cache.proofs.Accepted.{Fetched, fetched}
-use Rattle.history.specs.Runs.{Call, begin, fetch, end, hostWrite, ownWrite, show, Machine, start, says, after, along, ran}
+use Rattle.cache.specs.Runs.{Call, begin, fetch, end, hostWrite, ownWrite, show, Machine, start, says, after, along, ran}
 use Rattle.history.specs.Journal.{Event, event, backwards, deedOf}
 use Rattle.history.specs.Firsts.{Value, none, first, orElse, Memory, remember, memory}
 use Rattle.history.proofs.Replaced.{replaced, Fits, byte-other, length-replaced}
@@ -29,16 +28,16 @@ use Rattle.history.proofs.Effects.{refused-same, old, grown, packed, ze
 use Rattle.history.proofs.Invariant.{Whole, whole-start, whole-replaced}
 
 -- what the records and the store say of an address
-abbrev pub stored : List Record → ℕ → List ℕ → ℕ → Value
-stored rs c store x = cond (held rs x) (first (getD store (partStart c + place rs x) 0)) none
+abbrev pub stored : List Record → (location : ℕ → ℕ) → (store : List ℕ) → ℕ → Value
+stored rs location store x = cond (held rs x) (first (getD store (location (place rs x)) 0)) none
 
 -- the memory of an open command is what it holds
-abbrev pub Known : CommandState → List ℕ → Memory → ℕ → ℕ → Type 0
-Known p store mem c x = p .opened ≡ true → mem c x ≡ stored (recordsIn p) c store x
+abbrev pub Known : CommandState → (location : ℕ → ℕ) → (store : List ℕ) → Memory → (c x : ℕ) → Type 0
+Known p location store mem c x = p .opened ≡ true → mem c x ≡ stored (recordsIn p) location store x
 
 pub record Sound (m : Machine) (mem : Memory) : Type 0 where
   pub state : Whole (m .state)
-  pub known : (c x : ℕ) → Known (commandOf (m .state) c) (m .store) mem c x
+  pub known : (c x : ℕ) → Known (commandOf (m .state) c) (location (m .state) c) (m .store) mem c x
   pub size : (c : ℕ) → isOpen (m .state) c ≡ true → length (m .store) ≡ storeSize
 
 pub sound-start : (store : List ℕ) → Sound (start store) (memory [])
@@ -51,8 +50,8 @@ sound-start store = record { state = whole-start store; known = λ c x o. none-o
 -- A command replaced: the others know what they knew.
 
 module _ (m : Machine) (c : ℕ) (next : CommandState) (bytes : List ℕ) (F : Fits m c next bytes) (mem mem′ : Memory) (S : Sound m mem)
-    (others : (d x : ℕ) → d ≢ c → mem′ d x ≡ mem d x) (own : (x : ℕ) → Known next (replaced m c next bytes .store) mem′ c x) where
-  stored-other : (d x : ℕ) → d ≢ c → stored (recordsOf (m .state) d) d (replaced m c next bytes .store) x ≡ stored (recordsOf (m .state) d) d (m .store) x
+    (others : (d x : ℕ) → d ≢ c → mem′ d x ≡ mem d x) (own : (x : ℕ) → Known next (location (replaced m c next bytes .state) c) (replaced m c next bytes .store) mem′ c x) where
+  stored-other : (d x : ℕ) → d ≢ c → stored (recordsOf (m .state) d) (location (m .state) d) (replaced m c next bytes .store) x ≡ stored (recordsOf (m .state) d) (location (m .state) d) (m .store) x
   stored-other d x apart = go (held (recordsOf (m .state) d) x) refl
     where
       rs : List Record
@@ -61,21 +60,21 @@ module _ (m : Machine) (c : ℕ) (next : CommandState) (bytes : List ℕ) (F : F
       K : Kept (commandOf (m .state) d)
       K = kept (m .state) d (S .state .whole)
 
-      go : (b : Bool) → held rs x ≡ b → stored rs d (replaced m c next bytes .store) x ≡ stored rs d (m .store) x
+      go : (b : Bool) → held rs x ≡ b → stored rs (location (m .state) d) (replaced m c next bytes .store) x ≡ stored rs (location (m .state) d) (m .store) x
       go true h = rw h (ap first (byte-other F d (place rs x) apart (omega (arith, place-below 0 rs x (K .up) h, K .small))))
       go false h = rw h
 
-  known-replaced : (d x : ℕ) → Known (commandOf (withCommand (m .state) c next) d) (replaced m c next bytes .store) mem′ d x
+  known-replaced : (d x : ℕ) → Known (commandOf (withCommand (m .state) c next) d) (location (replaced m c next bytes .state) d) (replaced m c next bytes .store) mem′ d x
   known-replaced d x = go (eqb d c) refl
     where
-      go : (b : Bool) → eqb d c ≡ b → Known (commandOf (withCommand (m .state) c next) d) (replaced m c next bytes .store) mem′ d x
+      go : (b : Bool) → eqb d c ≡ b → Known (commandOf (withCommand (m .state) c next) d) (location (replaced m c next bytes .state) d) (replaced m c next bytes .store) mem′ d x
       go true e =
-          subst (λ (k : ℕ). Known (commandOf (withCommand (m .state) c next) k) (replaced m c next bytes .store) mem′ k x) (sym (eqb-true d c e))
-          (subst (λ (p : CommandState). Known p (replaced m c next bytes .store) mem′ c x)
+          subst (λ (k : ℕ). Known (commandOf (withCommand (m .state) c next) k) (location (replaced m c next bytes .state) k) (replaced m c next bytes .store) mem′ k x) (sym (eqb-true d c e))
+          (subst (λ (p : CommandState). Known p (location (replaced m c next bytes .state) c) (replaced m c next bytes .store) mem′ c x)
           (sym (command-same (m .state) c next (omega (arith, eight (m .state) (S .state .shape), F .command)))) (own x))
       go false e =
           let apart = eqb-false d c e in
-          subst (λ (p : CommandState). Known p (replaced m c next bytes .store) mem′ d x) (sym (command-other (m .state) c next d apart))
+          subst (λ (p : CommandState). Known p (location (replaced m c next bytes .state) d) (replaced m c next bytes .store) mem′ d x) (sym (command-other (m .state) c next d apart))
           (λ o. others d x apart ∙ S .known d x o ∙ sym (stored-other d x apart))
 
   sound-replaced : Sound (replaced m c next bytes) mem′
@@ -96,10 +95,10 @@ module _ (m : Machine) (c a n : ℕ) (dest window : List ℕ) (F : Fetched (m .s
   abbrev bytes : List ℕ
   bytes = packed m c a n window
 
-  fetch-stored : (x : ℕ) → stored rs′ c (replaced m c (open-with rs′) bytes .store) x ≡ cond (held rs′ x) (first (sees (old m c) c (m .store) window x)) none
+  fetch-stored : (x : ℕ) → stored rs′ (location (replaced m c (open-with rs′) bytes .state) c) (replaced m c (open-with rs′) bytes .store) x ≡ cond (held rs′ x) (first (sees (old m c) (location (m .state) c) (m .store) (byteAt window) x)) none
   fetch-stored x = go (held rs′ x) refl
     where
-      go : (b : Bool) → held rs′ x ≡ b → stored rs′ c (replaced m c (open-with rs′) bytes .store) x ≡ cond (held rs′ x) (first (sees (old m c) c (m .store) window x)) none
+      go : (b : Bool) → held rs′ x ≡ b → stored rs′ (location (replaced m c (open-with rs′) bytes .state) c) (replaced m c (open-with rs′) bytes .store) x ≡ cond (held rs′ x) (first (sees (old m c) (location (m .state) c) (m .store) (byteAt window) x)) none
       go true h =
           let up = ascending-grown m c a n dest window F in
           let size = length-packed m c a n dest window F in
@@ -107,11 +106,11 @@ module _ (m : Machine) (c a n : ℕ) (dest window : List ℕ) (F : Fetched (m .s
           let fits : partStart c + length bytes ≤ length (m .store) = omega (arith, total-grown m c a n dest window F, F .command, F .size) in
           rw h
           (ap first
-          (overwrite-inside (m .store) bytes (partStart c) fits (place rs′ x) 0 near ∙ at-place (sees (old m c) c (m .store) window) 0 0 rs′ x up h))
+          (overwrite-inside (m .store) bytes (partStart c) fits (place rs′ x) 0 near ∙ at-place (sees (old m c) (location (m .state) c) (m .store) (byteAt window)) 0 0 rs′ x up h))
       go false h = rw h
 
   fetch-known : (mem : Memory) → Sound m mem → (x : ℕ)
-      → remember mem (deedOf true (fetch c a n dest window)) c x ≡ stored rs′ c (replaced m c (open-with rs′) bytes .store) x
+      → remember mem (deedOf true (fetch c a n dest window)) c x ≡ stored rs′ (location (replaced m c (open-with rs′) bytes .state) c) (replaced m c (open-with rs′) bytes .store) x
   unfolding remember
   fetch-known mem S x =
       rw (eq-eqb c c refl, S .known c x (F .opened), fetch-stored x, held-joined (old m c) a n x)

@@ -12,8 +12,9 @@ use Rattle.state.specs.Records.{inSpan, held, place, addresses, total}
 use Rattle.state.specs.State.{recordsOf, isOpen}
 use Rattle.state.proofs.Laws.{map-held, packed-back}
 use Rattle.state.proofs.Commands.{kept, open-below}
-use Rattle.cache.specs.Store.{partStart}
-use Rattle.history.specs.Runs.{Machine, start, ran}
+use Rattle.store.specs.Store.{partStart, packedBytes}
+use Rattle.store.proofs.Parts.{packed-part}
+use Rattle.cache.specs.Runs.{Machine, start, ran}
 use Rattle.history.specs.Journal.{Deed, began, fetched, ended, other, deed, journal, backwards}
 use Rattle.history.specs.Firsts.{Value, none, first, orElse, Memory, remember, memory, isKnown, finds, fetchedSince, recall}
 use Rattle.history.specs.Claims.{MemorySearch, StoredBytes}
@@ -55,11 +56,12 @@ module _ (m : Machine) (mem : Memory) (S : Sound m mem) (c : ℕ) (o : isOpen (m
   held-known : (x : ℕ) → held rs x ≡ isKnown (mem c x)
   held-known x = rw (S .known c x o) (known-held (held rs x) (getD (m .store) (partStart c + place rs x) 0))
 
-  part-known : part (m .store) (partStart c) (total rs) ≡ map (λ x. recall (mem c x)) (addresses rs)
+  part-known : packedBytes (m .state) (m .store) c (total rs) ≡ map (λ x. recall (mem c x)) (addresses rs)
   part-known =
       let K = kept (m .state) c (S .state .whole) in
       let fits : partStart c + total rs ≤ length (m .store) = omega (arith, K .small, open-below (m .state) c (S .state .shape) o, S .size c o) in
-      sym (map-held (λ x. recall (mem c x)) (λ x. getD (m .store) (partStart c + place rs x) 0) rs (λ x h. rw (S .known c x o, h)) ∙ packed-back (m .store) (partStart c) 0 rs (K .up) fits)
+      packed-part (m .state) (m .store) c (total rs) fits
+      ∙ sym (map-held (λ x. recall (mem c x)) (λ x. getD (m .store) (partStart c + place rs x) 0) rs (λ x h. rw (S .known c x o, h)) ∙ packed-back (m .store) (partStart c) 0 rs (K .up) fits)
 
 pub stored-bytes : StoredBytes
 stored-bytes store ps c o =

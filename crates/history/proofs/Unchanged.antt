@@ -11,14 +11,15 @@ use Rattle.state.specs.Records.{span, countFresh, joined}
 use Rattle.state.specs.State.{hasShape}
 use Rattle.state.specs.Verdict.{accepted}
 use Rattle.state.proofs.Commands.{kept, command-kept, open-with-own}
-use Rattle.cache.specs.Store.{partStart}
+use Rattle.words.proofs.StateWords.{shape-of}
+use Rattle.store.specs.Store.{partStart, byteAt}
 use Rattle.cache.specs.Fetch.{fetchDest}
 use Rattle.cache.specs.HostWrite.{hostWindow}
 use Rattle.cache.specs.OwnWrite.{ownWindow}
-use Rattle.cache.proofs.Parts.{own-bytes}
+use Rattle.store.proofs.Parts.{own-bytes}
 use Rattle.cache.proofs.Accepted.{Fetched, fetched, fetched-reply}
-use Rattle.history.specs.Runs.{Call, begin, fetch, end, hostWrite, ownWrite, show, Machine, says, after, destGiven, destAfter, windowGiven, windowAfter}
-use Rattle.history.specs.Claims.{RefusedUnchanged, Empty, EmptyFetch}
+use Rattle.cache.specs.Runs.{Call, begin, fetch, end, hostWrite, ownWrite, show, Machine, says, after, destGiven, destAfter, windowGiven, windowAfter}
+use Rattle.history.specs.Claims.{RefusedUnchanged, given, Empty, EmptyFetch}
 use Rattle.history.proofs.Effects.{refused-same, old, packed, fetch-after}
 
 dest-refused : (m : Machine) (p : Call) → accepted (says m p) ≡ false → destAfter m p ≡ destGiven p
@@ -54,7 +55,7 @@ module _ (m : Machine) (c a : ℕ) (dest window : List ℕ) (shape : hasShape (m
   unfolding joined
   packed-same =
       let K = kept (m .state) c (F .whole) in
-      own-bytes (old m c) c (m .store) window (K .up) (omega (arith, K .small, F .command, F .size))
+      own-bytes (old m c) c (m .store) (byteAt window) (K .up) (omega (arith, K .small, F .command, F .size))
 
   dest-same : destAfter m (fetch c a 0 dest window) ≡ dest
   unfolding fetchDest span
@@ -68,8 +69,14 @@ module _ (m : Machine) (c a : ℕ) (dest window : List ℕ) (shape : hasShape (m
 
 pub empty-fetch : EmptyFetch
 unfolding span countFresh
-empty-fetch m c a dest window shape = go (accepted (says m (fetch c a 0 dest window))) refl
+empty-fetch words store c a dest window = go (accepted (says m (fetch c a 0 dest window))) refl
   where
+    m : Machine
+    m = given words store
+
+    shape : hasShape (m .state) ≡ true
+    shape = shape-of words
+
     go : (b : Bool) → accepted (says m (fetch c a 0 dest window)) ≡ b → Empty m c a dest window
     go true e = record {
       unchanged = record { machine = machine-same m c a dest window shape e; dest = dest-same m c a dest window shape e; window = refl };

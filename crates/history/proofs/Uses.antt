@@ -13,7 +13,7 @@ use Rattle.state.specs.Verdict.{verdict, accepted}
 use Rattle.cache.specs.Begin.{beginSays, beginState, beginStore}
 use Rattle.cache.specs.Fetch.{fetchSays, fetchState, fetchStore, fetchDest}
 use Rattle.cache.specs.HostWrite.{hostSays}
-use Rattle.history.specs.Runs.{Call, begin, fetch, hostWrite, start, along, delivers}
+use Rattle.cache.specs.Runs.{Call, begin, fetch, hostWrite, start, along, delivers}
 use Rattle.history.specs.Journal.{journal, told}
 use Rattle.history.specs.Firsts.{remember, memory, First, firstsAmong, firstsBy, firsts}
 use Rattle.history.specs.Claims.{common}

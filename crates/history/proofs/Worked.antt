@@ -15,11 +15,11 @@ use Rattle.state.specs.Verdict.{Reply, refused, replied, verdict, accepted}
 use Rattle.cache.specs.Begin.{beginSays, beginState, beginStore}
 use Rattle.cache.specs.Fetch.{fetchSays, fetchState, fetchStore, fetchDest}
 use Rattle.cache.specs.End.{endSays, endState, endStore}
-use Rattle.history.specs.Runs.{Call, begin, fetch, end, hostWrite, start, along, delivers}
+use Rattle.cache.specs.Runs.{Call, begin, fetch, end, hostWrite, start, along, delivers}
 use Rattle.history.specs.Journal.{Event, journal, told, deed}
 use Rattle.history.specs.Firsts.{remember, memory, First, firstsAmong, firstsBy, firsts, owedBy, owed}
 use Rattle.history.specs.Counts.{countsBy, countsOwed, add, freshSince, sumOwed}
-use Rattle.history.specs.Claims.{begins, mayChange, common}
+use Rattle.history.specs.Claims.{renews, mayChange, common}
 
 abbrev dest : List ℕ
 dest = 0 ∷ 0 ∷ 0 ∷ []
@@ -80,7 +80,7 @@ unfolding run told add freshSince accepted
 sums-owed = refl
 
 -- command 1 begins anew in this run
-begins-anew : all (λ e. not (begins 1 (deed e))) run ≡ false
+begins-anew : all (λ e. not (renews 1 0 (deed e))) run ≡ false
 unfolding run all accepted
 begins-anew = refl
 

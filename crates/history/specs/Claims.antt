@@ -11,9 +11,10 @@ use Rattle.octets.specs.Lists.{all, part}
 use Rattle.state.specs.Limits.{heldLimit}
 use Rattle.state.specs.Records.{inSpan, held, addresses, total}
 use Rattle.state.specs.State.{holds, hasShape, commandOf, recordsOf, isOpen}
+use Rattle.state.specs.Words.{stateOf}
 use Rattle.state.specs.Verdict.{refused, replied, accepted}
-use Rattle.cache.specs.Store.{partStart}
-use Rattle.history.specs.Runs.{Call, begin, fetch, end, hostWrite, ownWrite, show, Machine, start, along, ran, says, stateAfter, storeAfter, after, destGiven, destAfter, windowGiven, windowAfter, delivers}
+use Rattle.store.specs.Store.{partStart, packedBytes}
+use Rattle.cache.specs.Runs.{Call, begin, fetch, end, hostWrite, ownWrite, show, Machine, start, along, ran, says, stateAfter, storeAfter, after, destGiven, destAfter, windowGiven, windowAfter, delivers}
 use Rattle.history.specs.Journal.{Event, event, journal, told, backwards, Deed, began, fetched, ended, other, deed}
 use Rattle.history.specs.Firsts.{Memory, memory, isKnown, fetchedSince, firsts, recall, owed}
 use Rattle.history.specs.Counts.{countsReplied, countsOwed, bytesReplied, sumOwed}
@@ -42,19 +43,20 @@ memoryAfter store ps = memory (backwards [] (journal store ps))
 pub record Holding (store : List ℕ) (ps : List Call) (c : ℕ) : Type 0 where
   pub records : (x : ℕ) → held (recordsOf (ran (start store) ps .state) c) x ≡ isKnown (memoryAfter store ps c x)
   pub bytes :
-      part (ran (start store) ps .store) (partStart c) (total (recordsOf (ran (start store) ps .state) c))
+      packedBytes (ran (start store) ps .state) (ran (start store) ps .store) c (total (recordsOf (ran (start store) ps .state) c))
       ≡ map (λ x. recall (memoryAfter store ps c x)) (addresses (recordsOf (ran (start store) ps .state) c))
 
 abbrev pub StoredBytes : Type 0
 StoredBytes = (store : List ℕ) (ps : List Call) (c : ℕ) → isOpen (ran (start store) ps .state) c ≡ true → Holding store ps c
 
--- Midas' invariant: where a command fetches an address twice, and no begin of it is accepted between the two, both deliver the
--- same value there. (An end between them does not matter: the other fetch is accepted only after another begin.)
-abbrev pub begins : ℕ → Deed → Bool
-begins c (began d) = eqb c d
-begins c (fetched d a n window) = false
-begins c (ended d) = false
-begins c other = false
+-- Midas' invariant: where a command fetches an address twice, and nothing between the two renews the address for it, both deliver
+-- the same value there. What renews it is an accepted begin of the command, at every address. (An end between them does not matter:
+-- the other fetch is accepted only after another begin.)
+abbrev pub renews : (c x : ℕ) → Deed → Bool
+renews c x (began d) = eqb c d
+renews c x (fetched d a n window) = false
+renews c x (ended d) = false
+renews c x other = false
 
 module _ (store : List ℕ) (before : List Call) (c a n : ℕ) (dest window : List ℕ) (between : List Call) (a′ n′ : ℕ) (dest′ window′ : List ℕ) where
   abbrev pub oneFetch : Call
@@ -71,9 +73,9 @@ module _ (store : List ℕ) (before : List Call) (c a n : ℕ) (dest window : Li
 
   abbrev pub SameValue : Type 0
   SameValue =
-      accepted (says beforeOne oneFetch) ≡ true → accepted (says beforeOther otherFetch) ≡ true
-      → all (λ e. not (begins c (deed e))) (along event (after beforeOne oneFetch) between) ≡ true
-      → (x : ℕ) → inSpan a n x ≡ true → inSpan a′ n′ x ≡ true
+      (x : ℕ) → inSpan a n x ≡ true → inSpan a′ n′ x ≡ true
+      → accepted (says beforeOne oneFetch) ≡ true → accepted (says beforeOther otherFetch) ≡ true
+      → all (λ e. not (renews c x (deed e))) (along event (after beforeOne oneFetch) between) ≡ true
       → getD (delivers beforeOne oneFetch) (x - a) 0 ≡ getD (delivers beforeOther otherFetch) (x - a′) 0
 
 abbrev pub SameValueRule : Type 0
@@ -147,13 +149,17 @@ pub record Unchanged (m : Machine) (p : Call) : Type 0 where
 abbrev pub RefusedUnchanged : Type 0
 RefusedUnchanged = (m : Machine) (p : Call) → accepted (says m p) ≡ false → Unchanged m p
 
--- 01's rule on length 0, for every state of the shape that the code's types give.
+-- every state and store that a call can be given: any words, and any bytes
+abbrev pub given : (words store : List ℕ) → Machine
+given words store = record { state = stateOf words; store = store }
+
+-- 01's rule on length 0
 pub record Empty (m : Machine) (c a : ℕ) (dest window : List ℕ) : Type 0 where
   pub unchanged : Unchanged m (fetch c a 0 dest window)
   pub reply : accepted (says m (fetch c a 0 dest window)) ≡ true → says m (fetch c a 0 dest window) ≡ replied (0 ∷ 0 ∷ [])
 
 abbrev pub EmptyFetch : Type 0
-EmptyFetch = (m : Machine) (c a : ℕ) (dest window : List ℕ) → hasShape (m .state) ≡ true → Empty m c a dest window
+EmptyFetch = (words store : List ℕ) (c a : ℕ) (dest window : List ℕ) → Empty (given words store) c a dest window
 
 -- 01's rule on what a fetch leaves untouched: past the span the destination, and the store before the command's part and from the
 -- new held count on.
@@ -165,4 +171,4 @@ pub record Beyond (m : Machine) (c a n : ℕ) (dest window : List ℕ) : Type 0 
       ≡ drop (partStart c + total (recordsOf (stateAfter m (fetch c a n dest window)) c)) (m .store)
 
 abbrev pub BeyondUnchanged : Type 0
-BeyondUnchanged = (m : Machine) (c a n : ℕ) (dest window : List ℕ) → hasShape (m .state) ≡ true → Beyond m c a n dest window
+BeyondUnchanged = (words store : List ℕ) (c a n : ℕ) (dest window : List ℕ) → Beyond (given words store) c a n dest window

@@ -1,4 +1,3 @@
-pub mod Runs
 pub mod Journal
 pub mod Firsts
 pub mod Counts

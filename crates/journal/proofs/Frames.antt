@@ -12,11 +12,11 @@ use Rattle.frames.specs.declared.Step.{Step}
 use Rattle.frames.specs.declared.Step.the-variants.{Begin, Fetch, End, HostWrite, OwnWrite}
 use Rattle.frames.specs.Kinds.{kindOf}
 use Rattle.frames.specs.Read.{stepNumbers, readSays, dataOf}
-use Rattle.history.specs.Runs.{Call, says, after, delivers}
+use Rattle.cache.specs.Runs.{Call, says, delivers}
 use Rattle.log.specs.declared.line.Answer.the-variants.{Refused}
 use Rattle.journal.specs.declared.step.Made.{Made}
-use Rattle.journal.specs.Step.{callOf, windowLeft, destLeft, Makes}
-use Rattle.journal.specs.Frame.{stepOf, isReadable, takenUp, stepRead, Device, frameCall, frameSays, frameLeaves, frameDelivers, Carries}
+use Rattle.journal.specs.Step.{Device, deviceOf, callOf, deviceAfter, Makes}
+use Rattle.journal.specs.Frame.{stepOf, isReadable, takenUp, stepRead, frameCall, frameSays, frameLeaves, frameDelivers, Carries}
 
 -- the step of a step's numbers is the step
 step-of : (s : Step) → stepOf (stepNumbers s) ≡ s
@@ -27,57 +27,51 @@ step-of (End c) = refl
 step-of (HostWrite a n) = refl
 step-of (OwnWrite c a n) = refl
 
-module _ (d : Device) (frame : List ℕ) where
-  module _ (why : Refusal) (is : readSays frame ≡ refused (number why)) where
-    unread : isReadable frame ≡ false
-    unfolding accepted
-    unread = ap accepted is
+module _ (words store window dest frame : List ℕ) (why : Refusal) (is : readSays frame ≡ refused (number why)) where
+  unread : isReadable frame ≡ false
+  unfolding accepted
+  unread = ap accepted is
 
-    pub carries-unreadable :
-        Carries d frame (record { taken = 0; letter = 63; answer = Refused why; delivered = 0; state = d .machine .state }) (d .machine .store) (d .window) (d .dest)
-    unfolding frameSays frameLeaves frameDelivers
-    carries-unreadable = record {
-      taken = sym (ap (λ (r : Reply). getD (numbersOf r) 0 0) is);
-      letter = sym (rw unread);
-      answer = rw unread (sym is);
-      leaves = rw unread;
-      within = omega arith;
-      delivered = rw unread;
-    }
+  pub carries-unreadable :
+      Carries (deviceOf words store window dest) frame (record { taken = 0; letter = 63; answer = Refused why; delivered = 0 }) words store window dest
+  unfolding frameSays frameLeaves frameDelivers
+  carries-unreadable = record {
+    taken = sym (ap (λ (r : Reply). getD (numbersOf r) 0 0) is);
+    letter = sym (rw unread);
+    answer = rw unread (sym is);
+    leaves = rw unread;
+    within = omega arith;
+    delivered = rw unread;
+  }
 
-  module _ (consumed : ℕ) (step : Step) (is : readSays frame ≡ replied (consumed ∷ stepNumbers step)) where
-    read : isReadable frame ≡ true
-    unfolding accepted
-    read = ap accepted is
+module _ (d : Device) (frame : List ℕ) (consumed : ℕ) (step : Step) (is : readSays frame ≡ replied (consumed ∷ stepNumbers step))
+    (bytes : List ℕ) (data-is : bytes ≡ dataOf frame consumed) where
+  read : isReadable frame ≡ true
+  unfolding accepted
+  read = ap accepted is
 
-    taken-is : takenUp frame ≡ consumed
-    taken-is = ap (λ (r : Reply). getD (numbersOf r) 0 0) is
+  taken-is : takenUp frame ≡ consumed
+  taken-is = ap (λ (r : Reply). getD (numbersOf r) 0 0) is
 
-    step-is : stepRead frame ≡ step
-    step-is = ap (λ (r : Reply). stepOf (drop 1 (numbersOf r))) is ∙ step-of step
+  step-is : stepRead frame ≡ step
+  step-is = ap (λ (r : Reply). stepOf (drop 1 (numbersOf r))) is ∙ step-of step
 
-    abbrev call : Call
-    call = callOf step (dataOf frame consumed) (d .dest) (d .window)
+  abbrev call : Call
+  call = callOf step bytes (d .dest) (d .window)
 
-    call-is : frameCall d frame ≡ call
-    call-is = ap₂ (λ (s : Step) (n : ℕ). callOf s (dataOf frame n) (d .dest) (d .window)) step-is taken-is
+  call-is : frameCall d frame ≡ call
+  call-is = ap₂ (λ (s : Step) (b : List ℕ). callOf s b (d .dest) (d .window)) step-is (ap (dataOf frame) taken-is ∙ sym data-is)
 
-    pub carries-step :
-        (r : Made) (letter : ℕ) (store′ window′ dest′ : List ℕ) → letter ≡ kindOf (getD (stepNumbers step) 0 0) .letter
-        → Makes (d .machine) (d .window) (d .dest) call r store′ window′ dest′
-        → Carries d frame (record { taken = consumed; letter = letter; answer = r .answer; delivered = r .delivered; state = r .state }) store′ window′ dest′
-    unfolding frameSays frameLeaves frameDelivers
-    carries-step r letter store′ window′ dest′ l M = record {
-      taken = sym taken-is;
-      letter = l ∙ sym (rw read (ap (λ (q : Reply). kindOf (getD (numbersOf q) 1 0) .letter) is));
-      answer = M .answer ∙ ap (says (d .machine)) (sym call-is) ∙ rw read;
-      leaves = left ∙ ap on (sym call-is) ∙ rw read;
-      within = M .within;
-      delivered = M .delivered ∙ ap (delivers (d .machine)) (sym call-is) ∙ rw read;
-    }
-      where
-        on : Call → Device
-        on p = record { machine = after (d .machine) p; window = windowLeft (d .machine) p (d .window); dest = destLeft (d .machine) p (d .dest) }
-
-        left : record { machine = record { state = r .state; store = store′ }; window = window′; dest = dest′ } ≡ on call
-        left = λ i. record { machine = record { state = M .state i; store = M .stored i }; window = M .host i; dest = M .given i }
+  pub carries-step :
+      {r : Made} {letter : ℕ} {words′ store′ window′ dest′ : List ℕ} → letter ≡ kindOf (getD (stepNumbers step) 0 0) .letter
+      → Makes d call r words′ store′ window′ dest′
+      → Carries d frame (record { taken = consumed; letter = letter; answer = r .answer; delivered = r .delivered }) words′ store′ window′ dest′
+  unfolding frameSays frameLeaves frameDelivers
+  carries-step l M = record {
+    taken = sym taken-is;
+    letter = l ∙ sym (rw read (ap (λ (q : Reply). kindOf (getD (numbersOf q) 1 0) .letter) is));
+    answer = M .answer ∙ ap (says (d .machine)) (sym call-is) ∙ rw read;
+    leaves = M .leaves ∙ ap (deviceAfter d) (sym call-is) ∙ rw read;
+    within = M .within;
+    delivered = M .delivered ∙ ap (delivers (d .machine)) (sym call-is) ∙ rw read;
+  }

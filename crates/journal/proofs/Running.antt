@@ -15,8 +15,9 @@ use Rattle.frames.proofs.Accepted.{readable, reads}
 use Rattle.log.specs.Text.{Puts}
 use Rattle.log.specs.Line.{lineOf}
 use Rattle.log.proofs.Putting.{puts-is, puts-none, puts-both}
-use Rattle.journal.specs.Frame.{Device, isReadable, takenUp, letterOf, frameSays, frameLeaves, frameDelivers}
-use Rattle.journal.specs.Run.{Entry, entryOf, entriesIn, leftIn, entries, journalLeaves, logFrom, count, wasCarried, wasRefused, endsEarly}
+use Rattle.journal.specs.Step.{Device, deviceOf}
+use Rattle.journal.specs.Frame.{isReadable, takenUp, letterOf, frameSays, frameLeaves, frameDelivers}
+use Rattle.journal.specs.Run.{Entry, entryOf, entriesIn, leftIn, entries, journalLeaves, logFrom, count, wasCarried, wasRefused, endsEarly, Replays}
 
 -- How many bytes a frame takes up
 
@@ -61,7 +62,9 @@ module _ (k : ℕ) (d : Device) where
   left-none zero = refl
   left-none (suc k) = refl
 
-  pub entries-read : (frame : List ℕ) → 0 < length frame → isReadable frame ≡ true → entriesIn (suc k) d frame ≡ entryOf d frame ∷ entriesIn k (frameLeaves d frame) (drop (takenUp frame) frame)
+  pub entries-read :
+      (frame : List ℕ) → 0 < length frame → isReadable frame ≡ true
+      → entriesIn (suc k) d frame ≡ entryOf d frame ∷ entriesIn k (frameLeaves d frame) (drop (takenUp frame) frame)
   unfolding entriesIn
   entries-read [] h e = absurd (not-suc-le-zero h)
   entries-read (x ∷ xs) h e = rw e
@@ -71,7 +74,9 @@ module _ (k : ℕ) (d : Device) where
   entries-unread [] h e = absurd (not-suc-le-zero h)
   entries-unread (x ∷ xs) h e = rw e
 
-  pub left-read : (frame : List ℕ) → 0 < length frame → isReadable frame ≡ true → leftIn (suc k) d frame ≡ leftIn k (frameLeaves d frame) (drop (takenUp frame) frame)
+  pub left-read :
+      (frame : List ℕ) → 0 < length frame → isReadable frame ≡ true
+      → leftIn (suc k) d frame ≡ leftIn k (frameLeaves d frame) (drop (takenUp frame) frame)
   unfolding leftIn
   left-read [] h e = absurd (not-suc-le-zero h)
   left-read (x ∷ xs) h e = rw (leftIn, e)
@@ -119,7 +124,8 @@ module _ (d₀ : Device) (input out₀ : List ℕ) where
   module _ (at number written carried : ℕ) (d : Device) (out : List ℕ) (R : Running at number written carried d out) where
     -- a frame more
     module _ (inside : at < length input) (next : ℕ) (out′ : List ℕ)
-        (line : Puts out written (lineOf (number + 1) (letterOf (drop at input)) (frameSays d (drop at input)) (frameDelivers d (drop at input))) next out′) where
+        (line : Puts out written (lineOf (number + 1) (letterOf (drop at input)) (frameSays d (drop at input)) (frameDelivers d (drop at input)))
+        next out′) where
       abbrev frame : List ℕ
       frame = drop at input
 
@@ -181,7 +187,9 @@ module _ (d₀ : Device) (input out₀ : List ℕ) where
               some = omega (arith, R .some, one-most (accepted (frameSays d frame)));
               told = R .told ++ text;
               put = puts-both (R .put) line;
-              text = append-assoc (R .told) text (logFrom (suc (number + 1)) rest) ∙ ap (λ (l : List ℕ). R .told ++ l) (sym text-is) ∙ ap (λ (l : List Entry). R .told ++ logFrom (suc number) l) (sym rest-is) ∙ R .text;
+              text =
+                  append-assoc (R .told) text (logFrom (suc (number + 1)) rest) ∙ ap (λ (l : List ℕ). R .told ++ l) (sym text-is)
+                  ∙ ap (λ (l : List Entry). R .told ++ logFrom (suc number) l) (sym rest-is) ∙ R .text;
               left = sym left-is ∙ R .left;
               goods = omega (arith, R .goods, ap (count wasCarried) rest-is, goods-are);
               bads = omega (arith, R .bads, ap (count wasRefused) rest-is, bads-are, R .some, one-most (accepted (frameSays d frame)));
@@ -189,9 +197,10 @@ module _ (d₀ : Device) (input out₀ : List ℕ) where
             }
 
         -- in the words of the code
-        pub running-turn : (taken carried′ : ℕ) (d′ : Device) → taken ≡ takenUp frame → carried′ ≡ carried + cond (accepted (frameSays d frame)) 1 0 → d′ ≡ frameLeaves d frame
-            → Running (at + taken) (number + 1) next carried′ d′ out′
-        running-turn taken carried′ d′ is count left =
+        pub running-turn :
+            {taken carried′ : ℕ} {d′ : Device} → taken ≡ takenUp frame → carried′ ≡ carried + cond (accepted (frameSays d frame)) 1 0
+            → d′ ≡ frameLeaves d frame → Running (at + taken) (number + 1) next carried′ d′ out′
+        running-turn {taken} {carried′} {d′} is count left =
             subst (λ (k : ℕ). Running (at + k) (number + 1) next carried′ d′ out′) (sym is)
             (subst (λ (x : Device). Running (at + takenUp frame) (number + 1) next carried′ x out′) (sym left) (turned carried′ count))
 
@@ -202,12 +211,16 @@ module _ (d₀ : Device) (input out₀ : List ℕ) where
 
         last-text : logFrom (suc number) (entryOf d frame ∷ []) ≡ text
         unfolding logFrom
-        last-text = append-nil (lineOf (suc number) (letterOf frame) (frameSays d frame) (frameDelivers d frame)) ∙ ap (λ (n : ℕ). lineOf n (letterOf frame) (frameSays d frame) (frameDelivers d frame)) (sym (add-one number))
+        last-text =
+            append-nil (lineOf (suc number) (letterOf frame) (frameSays d frame) (frameDelivers d frame))
+            ∙ ap (λ (n : ℕ). lineOf n (letterOf frame) (frameSays d frame) (frameDelivers d frame)) (sym (add-one number))
 
-        pub ended-log : Puts out₀ 0 (logFrom 1 (entries d₀ input)) next out′
-        ended-log = puts-is (puts-both (R .put) line) (ap (λ (l : List ℕ). R .told ++ l) (sym last-text) ∙ ap (λ (l : List Entry). R .told ++ logFrom (suc number) l) (sym last-is) ∙ R .text)
+        ended-log : Puts out₀ 0 (logFrom 1 (entries d₀ input)) next out′
+        ended-log =
+            puts-is (puts-both (R .put) line)
+            (ap (λ (l : List ℕ). R .told ++ l) (sym last-text) ∙ ap (λ (l : List Entry). R .told ++ logFrom (suc number) l) (sym last-is) ∙ R .text)
 
-        pub ended-leaves : frameLeaves d frame ≡ journalLeaves d₀ input
+        ended-leaves : frameLeaves d frame ≡ journalLeaves d₀ input
         unfolding frameLeaves
         ended-leaves = rw e (sym (left-unread (length input - (number + 1)) d frame some-bytes e)) ∙ ap (λ (k : ℕ). leftIn k d frame) (sym steps) ∙ R .left
 
@@ -219,41 +232,57 @@ module _ (d₀ : Device) (input out₀ : List ℕ) where
         unfolding count
         no-bad = rw e
 
-        pub ended-carried : carried ≡ count wasCarried (entries d₀ input)
+        ended-carried : carried ≡ count wasCarried (entries d₀ input)
         ended-carried = omega (arith, R .goods, ap (count wasCarried) last-is, no-good)
 
-        pub ended-refused : number - carried ≡ count wasRefused (entries d₀ input)
+        ended-refused : number - carried ≡ count wasRefused (entries d₀ input)
         ended-refused = omega (arith, R .bads, ap (count wasRefused) last-is, no-bad)
 
         stops : endsEarly (entryOf d frame ∷ []) ≡ true
         unfolding endsEarly
         stops = rw e
 
-        pub ended-early : true ≡ endsEarly (entries d₀ input)
+        ended-early : true ≡ endsEarly (entries d₀ input)
         ended-early = sym stops ∙ ap endsEarly (sym last-is) ∙ R .early
+
+        pub replays-unreadable :
+            {words′ store′ window′ dest′ : List ℕ} → deviceOf words′ store′ window′ dest′ ≡ frameLeaves d frame
+            → Replays d₀ input out₀ (record { carried = carried; refused = number - carried; early = true; written = next }) words′ store′ window′ dest′ out′
+        replays-unreadable left = record {
+          log = ended-log;
+          leaves = left ∙ ended-leaves;
+          carried = ended-carried;
+          refused = ended-refused;
+          early = ended-early;
+        }
 
     -- no byte is left
     module _ (past : length input ≤ at) where
       none : restOf number at d ≡ []
       none = ap (entriesIn (length input - number) d) (drop-of-length-le input {i = at} past) ∙ entries-none 0 d (length input - number)
 
-      pub all-log : Puts out₀ 0 (logFrom 1 (entries d₀ input)) written out
+      all-log : Puts out₀ 0 (logFrom 1 (entries d₀ input)) written out
       unfolding logFrom
       all-log = puts-is (R .put) (sym (append-nil (R .told)) ∙ ap (λ (l : List Entry). R .told ++ logFrom (suc number) l) (sym none) ∙ R .text)
 
-      pub all-leaves : d ≡ journalLeaves d₀ input
+      all-leaves : d ≡ journalLeaves d₀ input
       all-leaves = sym (ap (leftIn (length input - number) d) (drop-of-length-le input {i = at} past) ∙ left-none 0 d (length input - number)) ∙ R .left
 
       no-count : (test : Entry → Bool) → count test [] ≡ 0
       unfolding count
       no-count test = refl
 
-      pub all-carried : carried ≡ count wasCarried (entries d₀ input)
+      all-carried : carried ≡ count wasCarried (entries d₀ input)
       all-carried = omega (arith, R .goods, ap (count wasCarried) none, no-count wasCarried)
 
-      pub all-refused : number - carried ≡ count wasRefused (entries d₀ input)
+      all-refused : number - carried ≡ count wasRefused (entries d₀ input)
       all-refused = omega (arith, R .bads, ap (count wasRefused) none, no-count wasRefused)
 
-      pub all-early : false ≡ endsEarly (entries d₀ input)
+      all-early : false ≡ endsEarly (entries d₀ input)
       unfolding endsEarly
       all-early = ap endsEarly (sym none) ∙ R .early
+
+      pub replays-all :
+          {words′ store′ window′ dest′ : List ℕ} → deviceOf words′ store′ window′ dest′ ≡ d
+          → Replays d₀ input out₀ (record { carried = carried; refused = number - carried; early = false; written = written }) words′ store′ window′ dest′ out
+      replays-all left = record { log = all-log; leaves = left ∙ all-leaves; carried = all-carried; refused = all-refused; early = all-early }

@@ -2,8 +2,7 @@
 use mathlib.Core.Path.{_≡_, refl}
 use mathlib.Core.List.{[], _∷_}
 use lib.ListN.{replicate}
-use Rattle.journal.specs.Export.{freshDevice}
-use Rattle.journal.specs.Run.{entriesIn, entries, logFrom}
+use Rattle.journal.specs.Run.{entriesIn, entries, freshDevice, logFrom}
 use Rattle.journal.specs.Frame.{stepOf, frameSays, frameLeaves, frameDelivers}
 use Rattle.octets.specs.Lists.{all}
 use Rattle.state.specs.Records.{held, span, addresses, total, place, countFresh, keep, lowest, highest, joined}
@@ -22,7 +21,12 @@ use Rattle.log.specs.Line.{deliveredFields, answerFields, spaced, lineOf}
 
 worked :
     logFrom 1 (entries (freshDevice (replicate 32768 0) (replicate 16384 0) (replicate 4096 0))
-    (0x08 ∷ 0x00 ∷ 0x00 ∷ 0x00 ∷ 0x00 ∷ 0x60 ∷ 0x00 ∷ 0x40 ∷ 0x00 ∷ 0x80 ∷ 0x61 ∷ 0x62 ∷ 0x63 ∷ 0x64 ∷ 0x28 ∷ 0x00 ∷ 0x40 ∷ 0x00 ∷ 0x80 ∷ 0x60 ∷ 0x00 ∷ 0x48 ∷ 0x00 ∷ 0x40 ∷ 0x7a ∷ 0x7a ∷ 0x28 ∷ 0x00 ∷ 0x38 ∷ 0x01 ∷ 0x00 ∷ 0x48 ∷ 0x00 ∷ 0x00 ∷ 0x00 ∷ 0x00 ∷ 0x28 ∷ 0x00 ∷ 0x40 ∷ 0x00 ∷ 0x80 ∷ []))
+    (0x08 ∷ 0x00 ∷ 0x00 ∷ 0x00 ∷ 0x00 ∷ 0x60 ∷ 0x00 ∷ 0x40 ∷ 0x00 ∷ 0x80 ∷ 0x61 ∷ 0x62 ∷ 0x63 ∷ 0x64 ∷ 0x28 ∷ 0x00 ∷ 0x40 ∷ 0x00 ∷ 0x80 ∷ 0x60
+    ∷ 0x00 ∷ 0x48 ∷ 0x00 ∷ 0x40 ∷ 0x7a ∷ 0x7a ∷ 0x28 ∷ 0x00 ∷ 0x38 ∷ 0x01 ∷ 0x00 ∷ 0x48 ∷ 0x00 ∷ 0x00 ∷ 0x00 ∷ 0x00 ∷ 0x28 ∷ 0x00 ∷ 0x40 ∷ 0x00
+    ∷ 0x80 ∷ []))
     ≡ ascii "1 B ok\n2 H ok 4\n3 F ok 4 0 61626364\n4 H ok 2\n5 F ok 4 4 0000616263640000\n6 E ok 1 8\n7 F no 21\n"
-unfolding logFrom entriesIn stepOf frameSays frameLeaves frameDelivers lineOf deliveredFields answerFields spaced digits decimal hexDigit hexadecimal readSays fieldsSay fieldsOf dataSize notZero zeroBroken verdict accepted beginSays beginState beginStore fetchSays fetchState fetchStore fetchDest endSays endState endStore hostSays hostWindow all ascending commandHolds holds total held span addresses place countFresh keep lowest highest joined
+unfolding logFrom entriesIn stepOf frameSays frameLeaves frameDelivers lineOf deliveredFields answerFields spaced digits decimal hexDigit hexadecimal
+    readSays fieldsSay fieldsOf dataSize notZero zeroBroken verdict accepted beginSays beginState beginStore fetchSays fetchState fetchStore fetchDest
+    endSays endState endStore hostSays hostWindow all ascending commandHolds holds total held span addresses place countFresh keep lowest highest
+    joined
 worked = refl

@@ -4,12 +4,12 @@ use mathlib.Core.Path.{_≡_}
 use mathlib.Core.List.{List, [], _∷_, map}
 use mathlib.Core.Bool.{true, false, cond}
 use lib.ListN.{length, drop}
-use Rattle.history.specs.Runs.{Call, says, delivers, along, ran}
+use Rattle.cache.specs.Runs.{Call, says, delivers, along, ran}
 use Rattle.history.specs.Journal.{journal, told}
 use Rattle.history.specs.Firsts.{owed}
-use Rattle.journal.specs.Frame.{Device, isReadable, takenUp, frameCall, frameLeaves}
-use Rattle.journal.specs.Run.{Entry, entries, journalLeaves}
-use Rattle.journal.specs.Export.{freshDevice}
+use Rattle.journal.specs.Step.{Device}
+use Rattle.journal.specs.Frame.{isReadable, takenUp, frameCall, frameLeaves}
+use Rattle.journal.specs.Run.{Entry, entries, journalLeaves, freshDevice}
 
 -- the calls of a journal's readable frames, in their order; each is given the window that the one before it left
 unfoldable pub callsIn : (steps : ℕ) → Device → (input : List ℕ) → List Call

@@ -11,10 +11,10 @@ use Rattle.frames.specs.declared.Step.{Step}
 use Rattle.frames.specs.declared.Step.the-variants.{Begin, Fetch, End, HostWrite, OwnWrite}
 use Rattle.frames.specs.Kinds.{kindOf}
 use Rattle.frames.specs.Read.{readSays, dataOf}
-use Rattle.history.specs.Runs.{Call, Machine, says, after, delivers}
+use Rattle.cache.specs.Runs.{Call, says, delivers}
 use Rattle.log.specs.Line.{answerReply}
 use Rattle.journal.specs.declared.frame.Carried.{Carried}
-use Rattle.journal.specs.Step.{callOf, windowLeft, destLeft}
+use Rattle.journal.specs.Step.{Device, deviceOf, callOf, deviceAfter}
 
 -- the step of these numbers: kind, command, address, length
 unfoldable pub stepOf : List ℕ → Step
@@ -39,12 +39,6 @@ module _ (frame : List ℕ) where
   abbrev pub letterOf : ℕ
   letterOf = cond isReadable (kindOf (getD (numbersOf (readSays frame)) 1 0) .letter) (code "?")
 
--- what a run hands on from frame to frame: state and store, the window, and the destination
-pub record Device : Type 0 where
-  pub machine : Machine
-  pub window : List ℕ
-  pub dest : List ℕ
-
 module _ (d : Device) (frame : List ℕ) where
   -- the frame's call; its data are the frame's bytes behind the head
   abbrev pub frameCall : Call
@@ -54,24 +48,17 @@ module _ (d : Device) (frame : List ℕ) where
   frameSays = cond (isReadable frame) (says (d .machine) frameCall) (readSays frame)
 
   -- an unreadable frame changes nothing
-  abbrev pub carriedOn : Device
-  carriedOn = record {
-    machine = after (d .machine) frameCall;
-    window = windowLeft (d .machine) frameCall (d .window);
-    dest = destLeft (d .machine) frameCall (d .dest);
-  }
-
   unfoldable pub frameLeaves : Device
-  frameLeaves = cond (isReadable frame) carriedOn d
+  frameLeaves = cond (isReadable frame) (deviceAfter d frameCall) d
 
   unfoldable pub frameDelivers : List ℕ
   frameDelivers = cond (isReadable frame) (delivers (d .machine) frameCall) []
 
 -- a frame carried out by the code; what was delivered stands at the front of the destination
-pub record Carries (d : Device) (frame : List ℕ) (r : Carried) (store′ window′ dest′ : List ℕ) : Type 0 where
+pub record Carries (d : Device) (frame : List ℕ) (r : Carried) (words′ store′ window′ dest′ : List ℕ) : Type 0 where
   pub taken : r .taken ≡ takenUp frame
   pub letter : r .letter ≡ letterOf frame
   pub answer : answerReply (r .answer) ≡ frameSays d frame
-  pub leaves : record { machine = record { state = r .state; store = store′ }; window = window′; dest = dest′ } ≡ frameLeaves d frame
+  pub leaves : deviceOf words′ store′ window′ dest′ ≡ frameLeaves d frame
   pub within : r .delivered ≤ length dest′
   pub delivered : take (r .delivered) dest′ ≡ frameDelivers d frame

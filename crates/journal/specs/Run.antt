@@ -6,11 +6,13 @@ use mathlib.Core.List.{List, [], _∷_, _++_}
 use mathlib.Core.Bool.{Bool, true, false, not, cond, _&&_, _||_}
 use lib.ListN.{length, drop}
 use Rattle.state.specs.Verdict.{Reply, accepted}
-use Rattle.log.specs.Text.{ascii, decimal, Puts}
+use Rattle.cache.specs.Runs.{start}
+use Rattle.log.specs.Text.{Puts}
 use Rattle.log.specs.Line.{lineOf}
 use Rattle.journal.specs.declared.line.Logged.{Logged}
 use Rattle.journal.specs.declared.run.Replayed.{Replayed}
-use Rattle.journal.specs.Frame.{Device, isReadable, takenUp, letterOf, frameSays, frameLeaves, frameDelivers}
+use Rattle.journal.specs.Step.{Device, deviceOf}
+use Rattle.journal.specs.Frame.{isReadable, takenUp, letterOf, frameSays, frameLeaves, frameDelivers}
 
 -- what the log tells of a frame
 pub record Entry : Type 0 where
@@ -41,6 +43,10 @@ entries d input = entriesIn (length input) d input
 abbrev pub journalLeaves : Device → (input : List ℕ) → Device
 journalLeaves d input = leftIn (length input) d input
 
+-- what the log program runs its journal from: the fresh state and what is lent
+abbrev pub freshDevice : (store window dest : List ℕ) → Device
+freshDevice store window dest = record { machine = start store; window = window; dest = dest }
+
 -- 01's log: a line for each entry, numbered from n on
 unfoldable pub logFrom : ℕ → List Entry → List ℕ
 logFrom n [] = []
@@ -61,21 +67,17 @@ unfoldable pub endsEarly : List Entry → Bool
 endsEarly [] = false
 endsEarly (e ∷ es) = not (e .readable) || endsEarly es
 
--- the three in decimal on one line, 1 for a run that ended early
-unfoldable pub summaryOf : (carried refused : ℕ) → (early : Bool) → List ℕ
-summaryOf carried refused early = decimal carried ++ ascii " " ++ decimal refused ++ cond early (ascii " 1\n") (ascii " 0\n")
-
 -- one frame carried out by the code, and its line put into a buffer
-pub record Logs (d : Device) (number : ℕ) (frame : List ℕ) (out : List ℕ) (at : ℕ) (r : Logged) (store′ window′ dest′ out′ : List ℕ) : Type 0 where
+pub record Logs (d : Device) (number : ℕ) (frame : List ℕ) (out : List ℕ) (at : ℕ) (r : Logged) (words′ store′ window′ dest′ out′ : List ℕ) : Type 0 where
   pub taken : r .taken ≡ takenUp frame
   pub accepted : r .accepted ≡ accepted (frameSays d frame)
-  pub leaves : record { machine = record { state = r .state; store = store′ }; window = window′; dest = dest′ } ≡ frameLeaves d frame
+  pub leaves : deviceOf words′ store′ window′ dest′ ≡ frameLeaves d frame
   pub line : Puts out at (lineOf number (letterOf frame) (frameSays d frame) (frameDelivers d frame)) (r .next) out′
 
 -- a journal run by the code: the log is put into the output as far as it fits
-pub record Replays (d : Device) (input : List ℕ) (out : List ℕ) (r : Replayed) (store′ window′ dest′ out′ : List ℕ) : Type 0 where
+pub record Replays (d : Device) (input : List ℕ) (out : List ℕ) (r : Replayed) (words′ store′ window′ dest′ out′ : List ℕ) : Type 0 where
   pub log : Puts out 0 (logFrom 1 (entries d input)) (r .written) out′
-  pub leaves : record { machine = record { state = r .state; store = store′ }; window = window′; dest = dest′ } ≡ journalLeaves d input
+  pub leaves : deviceOf words′ store′ window′ dest′ ≡ journalLeaves d input
   pub carried : r .carried ≡ count wasCarried (entries d input)
   pub refused : r .refused ≡ count wasRefused (entries d input)
   pub early : r .early ≡ endsEarly (entries d input)

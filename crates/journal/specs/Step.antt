@@ -4,12 +4,22 @@ use Prim.Native.Nat.{ℕ, _≤_}
 use mathlib.Core.Path.{_≡_}
 use mathlib.Core.List.{List}
 use lib.ListN.{length, take}
-use Rattle.state.specs.declared.CacheState.{CacheState}
+use Rattle.state.specs.Words.{stateOf}
 use Rattle.frames.specs.declared.Step.{Step}
 use Rattle.frames.specs.declared.Step.the-variants.{Begin, Fetch, End, HostWrite, OwnWrite}
-use Rattle.history.specs.Runs.{Call, begin, fetch, end, hostWrite, ownWrite, show, Machine, says, stateAfter, storeAfter, destAfter, windowAfter, delivers}
+use Rattle.cache.specs.Runs.{Call, begin, fetch, end, hostWrite, ownWrite, show, Machine, says, after, destAfter, windowAfter, delivers}
 use Rattle.log.specs.Line.{answerReply}
 use Rattle.journal.specs.declared.step.Made.{Made}
+
+-- what a run hands on from step to step: state and store, the window, and the destination
+pub record Device : Type 0 where
+  pub machine : Machine
+  pub window : List ℕ
+  pub dest : List ℕ
+
+-- the one that the words of the state and the three buffers make
+abbrev pub deviceOf : (words store window dest : List ℕ) → Device
+deviceOf words store window dest = record { machine = record { state = stateOf words; store = store }; window = window; dest = dest }
 
 -- the call that a step is, with its data and what is lent
 abbrev pub callOf : Step → (bytes dest window : List ℕ) → Call
@@ -36,23 +46,17 @@ destLeft m (hostWrite a bytes w) dest = dest
 destLeft m (ownWrite c a bytes w) dest = dest
 destLeft m (show c i) dest = dest
 
--- a call that takes neither window nor destination
-pub record Changes (m : Machine) (p : Call) (r : Made) (store′ : List ℕ) : Type 0 where
-  pub answer : answerReply (r .answer) ≡ says m p
-  pub state : r .state ≡ stateAfter m p
-  pub stored : store′ ≡ storeAfter m p
-  pub none : r .delivered ≡ 0
+-- all that is handed on, after a call
+abbrev pub deviceAfter : Device → Call → Device
+deviceAfter d p = record {
+  machine = after (d .machine) p;
+  window = windowLeft (d .machine) p (d .window);
+  dest = destLeft (d .machine) p (d .dest);
+}
 
--- a call made: the answer, the state, and every buffer after it; what was delivered stands at the front of the destination
-pub record Makes (m : Machine) (window dest : List ℕ) (p : Call) (r : Made) (store′ window′ dest′ : List ℕ) : Type 0 where
-  pub answer : answerReply (r .answer) ≡ says m p
-  pub state : r .state ≡ stateAfter m p
-  pub stored : store′ ≡ storeAfter m p
-  pub host : window′ ≡ windowLeft m p window
-  pub given : dest′ ≡ destLeft m p dest
+-- a step made as a call by the code; what was delivered stands at the front of the destination
+pub record Makes (d : Device) (p : Call) (r : Made) (words′ store′ window′ dest′ : List ℕ) : Type 0 where
+  pub answer : answerReply (r .answer) ≡ says (d .machine) p
+  pub leaves : deviceOf words′ store′ window′ dest′ ≡ deviceAfter d p
   pub within : r .delivered ≤ length dest′
-  pub delivered : take (r .delivered) dest′ ≡ delivers m p
-
--- what is handed on, of a state and a store
-abbrev pub machine : CacheState → List ℕ → Machine
-machine s store = record { state = s; store = store }
+  pub delivered : take (r .delivered) dest′ ≡ delivers (d .machine) p

@@ -3,7 +3,7 @@ ghost use mathlib.Core.Path.{_≡_};
 ghost use lib.ListN.{getD};
 ghost use Rattle.frames.specs.Kinds.{kindOf};
 ghost use Rattle.frames.specs.Read.{stepNumbers};
-ghost use Rattle.journal.specs.Step.{machine};
+ghost use Rattle.journal.specs.Step.{deviceOf};
 ghost use Rattle.journal.specs.Frame.{Carries};
 use crate::step::make;
 use frames::ReadAnswer;
@@ -12,14 +12,13 @@ use frames::tables;
 use log::Answer;
 use state::CacheState;
 
-// How many bytes the frame took up (none if it is unreadable), its letter, the answer, how many bytes were delivered to the front of
-// the destination, and the state after it.
+// How many bytes the frame took up (none if it is unreadable), its letter, the answer, and how many bytes were delivered to the front
+// of the destination.
 pub struct Carried {
     pub taken: usize,
     pub letter: u8,
     pub answer: Answer,
     pub delivered: usize,
-    pub state: CacheState,
 }
 
 // The letter of an unreadable frame.
@@ -39,12 +38,12 @@ fn letter(step: Step) -> u8
 
 pub fn carry_out(
     frame: &[u8],
-    state: CacheState,
+    state: &mut [u16; CacheState::WORDS],
     store: &mut [u8],
     window: &mut [u8],
     destination: &mut [u8],
 ) -> Carried
-    ensures { λ r. ⌜ Carries (record { machine = machine state (now (store .entry)); window = now (window .entry); dest = now (destination .entry) }) (now (frame .entry)) r (now (store .exit)) (now (window .exit)) (now (destination .exit)) ⌝ }
+    ensures { λ r. ⌜ Carries (deviceOf (now (state .entry)) (now (store .entry)) (now (window .entry)) (now (destination .entry))) (now (frame .entry)) r (now (state .exit)) (now (store .exit)) (now (window .exit)) (now (destination .exit)) ⌝ }
 {
     let reading = frames::read(frame);
     match reading {
@@ -53,7 +52,6 @@ pub fn carry_out(
             letter: UNREADABLE,
             answer: Answer::Refused(why),
             delivered: 0,
-            state,
         },
         ReadAnswer::Step(parsed) => {
             let consumed = parsed.consumed;
@@ -61,13 +59,11 @@ pub fn carry_out(
             let bytes = frames::data(frame, consumed);
             let made = make(step, bytes, state, store, window, destination);
             let answer = made.answer;
-            let next = made.state;
             Carried {
                 taken: consumed,
                 letter: letter(step),
                 answer,
                 delivered: made.delivered,
-                state: next,
             }
         }
     }

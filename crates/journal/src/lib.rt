@@ -1,5 +1,4 @@
 // A journal of frames: one frame carried out, its line of the log, and a whole journal run.
-mod export;
 mod frame;
 mod line;
 mod run;
@@ -8,7 +7,6 @@ mod step;
 // The most bytes of a journal that the log program takes.
 pub const MOST: usize = 32768;
 
-pub use export::journal_replay;
 pub use frame::Carried;
 pub use frame::carry_out;
 pub use line::Logged;

@@ -2,19 +2,17 @@
 ghost use mathlib.Core.Path.{_≡_};
 ghost use Rattle.state.specs.Verdict.{accepted};
 ghost use Rattle.log.specs.Line.{answerReply};
-ghost use Rattle.journal.specs.Step.{machine};
+ghost use Rattle.journal.specs.Step.{deviceOf};
 ghost use Rattle.journal.specs.Run.{Logs};
 use crate::frame::carry_out;
 use log::Answer;
 use state::CacheState;
 
-// How many bytes the frame took up (none if it is unreadable), whether it was accepted, the place behind its line, and the state after
-// it.
+// How many bytes the frame took up (none if it is unreadable), whether it was accepted, and the place behind its line.
 pub struct Logged {
     pub taken: usize,
     pub accepted: bool,
     pub next: usize,
-    pub state: CacheState,
 }
 
 fn accepted(answer: Answer) -> bool
@@ -32,14 +30,14 @@ fn accepted(answer: Answer) -> bool
 pub fn log_frame(
     number: usize,
     frame: &[u8],
-    state: CacheState,
+    state: &mut [u16; CacheState::WORDS],
     store: &mut [u8],
     window: &mut [u8],
     destination: &mut [u8],
     output: &mut [u8],
     at: usize,
 ) -> Logged
-    ensures { λ r. ⌜ Logs (record { machine = machine state (now (store .entry)); window = now (window .entry); dest = now (destination .entry) }) number (now (frame .entry)) (now (output .entry)) at r (now (store .exit)) (now (window .exit)) (now (destination .exit)) (now (output .exit)) ⌝ }
+    ensures { λ r. ⌜ Logs (deviceOf (now (state .entry)) (now (store .entry)) (now (window .entry)) (now (destination .entry))) number (now (frame .entry)) (now (output .entry)) at r (now (state .exit)) (now (store .exit)) (now (window .exit)) (now (destination .exit)) (now (output .exit)) ⌝ }
 {
     let carried = carry_out(frame, state, store, window, destination);
     let answer = carried.answer;
@@ -52,11 +50,9 @@ pub fn log_frame(
         answer,
         &destination[..delivered],
     );
-    let after = carried.state;
     Logged {
         taken: carried.taken,
         accepted: accepted(answer),
         next,
-        state: after,
     }
 }

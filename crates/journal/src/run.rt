@@ -2,19 +2,18 @@
 ghost use mathlib.Core.Path.{_≡_};
 ghost use mathlib.Core.Bool.{cond};
 ghost use Prim.Native.Nat.{_≤_};
-ghost use Rattle.journal.specs.Step.{machine};
+ghost use Rattle.journal.specs.Step.{deviceOf};
 ghost use Rattle.journal.specs.Run.{Replays};
 use crate::line::log_frame;
 use state::CacheState;
 
-// How many frames were carried out and how many a call refused, whether an unreadable frame ended the run, how many bytes of the log
-// were written, and the state after it.
+// How many frames were carried out and how many a call refused, whether an unreadable frame ended the run, and how many bytes of the
+// log were written.
 pub struct Replayed {
     pub carried: usize,
     pub refused: usize,
     pub early: bool,
     pub written: usize,
-    pub state: CacheState,
 }
 
 fn one_if(test: bool) -> usize
@@ -25,15 +24,14 @@ fn one_if(test: bool) -> usize
 
 pub fn replay(
     input: &[u8],
-    state: CacheState,
+    state: &mut [u16; CacheState::WORDS],
     store: &mut [u8],
     window: &mut [u8],
     destination: &mut [u8],
     output: &mut [u8],
 ) -> Replayed
-    ensures { λ r. ⌜ Replays (record { machine = machine state (now (store .entry)); window = now (window .entry); dest = now (destination .entry) }) (now (input .entry)) (now (output .entry)) r (now (store .exit)) (now (window .exit)) (now (destination .exit)) (now (output .exit)) ⌝ }
+    ensures { λ r. ⌜ Replays (deviceOf (now (state .entry)) (now (store .entry)) (now (window .entry)) (now (destination .entry))) (now (input .entry)) (now (output .entry)) r (now (state .exit)) (now (store .exit)) (now (window .exit)) (now (destination .exit)) (now (output .exit)) ⌝ }
 {
-    let mut next = state;
     let mut at = 0;
     let mut number = 0;
     let mut written = 0;
@@ -42,15 +40,13 @@ pub fn replay(
         let r = log_frame(
             number + 1,
             &input[at..],
-            next,
+            state,
             store,
             window,
             destination,
             output,
             written,
         );
-        let after = r.state;
-        next = after;
         written = r.next;
         let taken = r.taken;
         if taken == 0 {
@@ -59,7 +55,6 @@ pub fn replay(
                 refused: number - carried,
                 early: true,
                 written,
-                state: next,
             };
         }
         carried = carried + one_if(r.accepted);
@@ -71,6 +66,5 @@ pub fn replay(
         refused: number - carried,
         early: false,
         written,
-        state: next,
     }
 }

@@ -11,14 +11,13 @@ use borrow.Author.Tests.{eq-eqb}
 use Rattle.octets.specs.Lists.{all}
 use Rattle.octets.proofs.Lists.{both}
 use Rattle.state.specs.declared.Record.{Record}
-use Rattle.state.specs.declared.CacheState.{CacheState}
 use Rattle.state.specs.Records.{held, span, total, countFresh, keep, lowest, highest, joined}
-use Rattle.state.specs.State.{freshState, open-with, withCommand, recordsOf, ascending, commandHolds, holds}
+use Rattle.state.specs.State.{State, freshState, open-with, withCommand, recordsOf, ascending, commandHolds, holds}
 use Rattle.state.specs.Verdict.{Reply, refused, replied, accepted, verdict}
 use Rattle.state.proofs.Places.{map-read}
 use Rattle.cache.specs.Begin.{beginSays, beginState}
 use Rattle.cache.specs.Fetch.{fetchSays, fetchState}
-use Rattle.history.specs.Runs.{Call, begin, fetch, Machine, start, says, after, windowAfter, delivers}
+use Rattle.cache.specs.Runs.{Call, begin, fetch, Machine, start, says, after, windowAfter, delivers}
 use Rattle.history.specs.Journal.{fetched, deedOf}
 use Rattle.history.specs.Firsts.{none, first, Memory, remember, memory, recall, orElse, owedBy}
 use Rattle.history.proofs.Effects.{refused-same, length-after}
@@ -57,14 +56,14 @@ abbrev past-full : Call
 past-full = fetch 0 4096 1 dest window
 
 -- the states before and after, which no byte changes
-abbrev empty : CacheState
+abbrev empty : State
 empty = withCommand freshState 0 (open-with [])
 
-abbrev full : CacheState
+abbrev full : State
 full = withCommand freshState 0 (open-with (record { start = 0; len = 4096 } ∷ []))
 
 -- what is said depends on lengths alone
-abbrev answer : CacheState → (a n : ℕ) → Reply
+abbrev answer : State → (a n : ℕ) → Reply
 answer s a n = fetchSays s 32768 (length window) (length dest) 0 a n
 
 fill-answer : answer empty 0 4096 ≡ replied (4096 ∷ 0 ∷ [])
@@ -87,12 +86,12 @@ again-next : fetchState full 32768 (length window) (length dest) 0 0 4096 ≡ fu
 unfolding window bytesOf dest fetchState fetchSays accepted verdict all ascending commandHolds holds total held span countFresh keep lowest highest joined
 again-next = refl
 
-module _ (m : Machine) (s : CacheState) (is : m .state ≡ s) (size : length (m .store) ≡ 32768) where
+module _ (m : Machine) (s : State) (is : m .state ≡ s) (size : length (m .store) ≡ 32768) where
   says-answer : (a n : ℕ) → says m (fetch 0 a n dest window) ≡ answer s a n
-  says-answer a n = ap₂ (λ (t : CacheState) (k : ℕ). fetchSays t k (length window) (length dest) 0 a n) is size
+  says-answer a n = ap₂ (λ (t : State) (k : ℕ). fetchSays t k (length window) (length dest) 0 a n) is size
 
   next-state : after m fill .state ≡ fetchState s 32768 (length window) (length dest) 0 0 4096
-  next-state = ap₂ (λ (t : CacheState) (k : ℕ). fetchState t k (length window) (length dest) 0 0 4096) is size
+  next-state = ap₂ (λ (t : State) (k : ℕ). fetchState t k (length window) (length dest) 0 0 4096) is size
 
 -- The bytes
 
@@ -199,8 +198,8 @@ again-state = next-state filled full filled-state filled-size ∙ again-next
 abbrev whole-record : Expected (List Record)
 whole-record = is (record { start = 0; len = 4096 } ∷ [])
 
-full-records : (s : CacheState) → s ≡ full → asExpected sameRecords whole-record (recordsOf s 0) ≡ true
-full-records s e = subst (λ (t : CacheState). asExpected sameRecords whole-record (recordsOf t 0) ≡ true) (sym e) (unfold asExpected sameRecords in refl)
+full-records : (s : State) → s ≡ full → asExpected sameRecords whole-record (recordsOf s 0) ≡ true
+full-records s e = subst (λ (t : State). asExpected sameRecords whole-record (recordsOf t 0) ≡ true) (sym e) (unfold asExpected sameRecords in refl)
 
 no-more : (m : Machine) → passes m [] ≡ true
 unfolding passes

@@ -4,7 +4,7 @@ use mathlib.Core.Bool.{true}
 use mathlib.Core.List.{_∷_}
 use Rattle.octets.specs.Lists.{all}
 use Rattle.octets.proofs.Lists.{both}
-use Rattle.history.specs.Runs.{start}
+use Rattle.cache.specs.Runs.{start}
 use Rattle.situations.specs.Steps.{passes}
 use Rattle.situations.specs.Situations.{store, opens, A, B, C, D, F, G, H, I, J, situations, Situations}
 use Rattle.situations.proofs.Full.{e-passes}

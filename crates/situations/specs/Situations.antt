@@ -8,7 +8,7 @@ use Rattle.octets.specs.Lists.{all}
 use Rattle.state.specs.declared.Record.{Record}
 use Rattle.state.specs.Records.{span}
 use Rattle.state.specs.Verdict.{refused, replied}
-use Rattle.history.specs.Runs.{begin, fetch, ownWrite, start}
+use Rattle.cache.specs.Runs.{begin, fetch, ownWrite, start}
 use Rattle.situations.specs.Steps.{Expected, unsaid, is, Step, calls, reads, passes}
 
 -- the byte at each address is its number modulo 256

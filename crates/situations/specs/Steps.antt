@@ -16,7 +16,7 @@ use Rattle.frames.specs.Layout.{fieldsOf}
 use Rattle.frames.specs.Kinds.{dataSize}
 use Rattle.frames.specs.Checks.{notZero, zeroBroken}
 use Rattle.frames.specs.Read.{fieldsSay, readSays}
-use Rattle.history.specs.Runs.{Call, Machine, says, after, windowAfter, delivers}
+use Rattle.cache.specs.Runs.{Call, Machine, says, after, windowAfter, delivers}
 
 -- what must be so after a step, or nothing said of it
 pub data Expected (A : Type 0) : Type 0 where

@@ -1,8 +1,7 @@
--- Case analysis for the records: where a record stands to a span, and what an ascending list says of its first record.
+-- Case analysis for the records: where a record stands to a span and to an address, and what an ascending list says of its first record.
 use Prim.Native.Nat.{ℕ, _≤_, _<_}
 use native.Mathlib.Omega.{arith}
 use mathlib.Core.Path.{_≡_, refl}
-use mathlib.Core.Logic.{_≢_}
 use mathlib.Core.List.{List, _∷_}
 use mathlib.Core.Bool.{Bool, true, false, and-eq-true-iff, and-false}
 use native.Mathlib.Nat.{lt-of-not-le, not-le-of-lt}
@@ -10,7 +9,6 @@ use lib.Dec.{leb}
 use borrow.Author.Tests.{ltb-true, leb-true, leb-false, lt-ltb, le-ltb, le-leb, lt-leb}
 use Rattle.state.specs.declared.Record.{Record}
 use Rattle.octets.proofs.Lists.{both}
-use Rattle.state.specs.Limits.{windowLimit}
 use Rattle.state.specs.Records.{past, inSpan}
 use Rattle.state.specs.State.{ascending}
 
@@ -27,6 +25,20 @@ side a e r = go (leb (past r) a) refl (leb e (r .start)) refl
     go true p c q = before (leb-true _ _ p)
     go false p true q = after (leb-true _ _ q)
     go false p false q = meets (leb-false _ _ q) (leb-false _ _ p)
+
+-- an address lies above a record, in it, or below it
+pub data Lies (x : ℕ) (r : Record) : Type 0 where
+  over : past r ≤ x → Lies x r
+  within : r .start ≤ x → x < past r → Lies x r
+  beneath : x < r .start → Lies x r
+
+pub lies : (x : ℕ) (r : Record) → Lies x r
+lies x r = go (leb (past r) x) refl (leb (r .start) x) refl
+  where
+    go : (b : Bool) → leb (past r) x ≡ b → (c : Bool) → leb (r .start) x ≡ c → Lies x r
+    go true p c q = over (leb-true _ _ p)
+    go false p true q = within (leb-true _ _ q) (leb-false _ _ p)
+    go false p false q = beneath (leb-false _ _ q)
 
 -- a test may be put for another if each holds where the other does
 pub leb-same : (a b c d : ℕ) → (a ≤ b → c ≤ d) → (c ≤ d → a ≤ b) → leb a b ≡ leb c d
@@ -66,21 +78,3 @@ below r x h = rw (lt-leb (r .start) x h)
 
 pub above : (r : Record) (x : ℕ) → past r ≤ x → inSpan (r .start) (r .len) x ≡ false
 above r x h = rw (le-ltb x (past r) h, and-false)
-
--- an ascending list told record by record: what fails at its first, or that the rest decides
-module _ (lo : ℕ) (r : Record) (rs : List Record) where
-  pub ascending-low : r .start < lo → ascending lo (r ∷ rs) ≡ false
-  unfolding ascending
-  ascending-low h = rw (lt-leb lo (r .start) h)
-
-  pub ascending-empty : past r ≡ r .start → ascending lo (r ∷ rs) ≡ false
-  unfolding ascending
-  ascending-empty h = rw (le-ltb 0 (r .len) (omega arith), and-false)
-
-  pub ascending-far : windowLimit < past r → ascending lo (r ∷ rs) ≡ false
-  unfolding ascending
-  ascending-far h = rw (lt-leb (past r) windowLimit h, and-false)
-
-  pub ascending-next : lo ≤ r .start → past r ≢ r .start → past r ≤ windowLimit → ascending lo (r ∷ rs) ≡ ascending (past r) rs
-  unfolding ascending
-  ascending-next h k l = rw (le-leb lo (r .start) h, lt-ltb 0 (r .len) (omega arith), le-leb (past r) windowLimit l)

@@ -12,15 +12,13 @@ use borrow.Author.Tests.{ltb-true, ltb-false, leb-true, le-leb, lt-leb, eqb-true
 use Rattle.octets.specs.Lists.{all}
 use Rattle.octets.proofs.Lists.{both, and-left, and-right, all-at, all-set, all-replicate}
 use Rattle.state.specs.declared.Record.{Record}
-use Rattle.state.specs.declared.CommandState.{CommandState}
-use Rattle.state.specs.declared.CacheState.{CacheState}
 use Rattle.state.specs.Limits.{commandLimit, recordLimit, heldLimit}
 use Rattle.state.specs.Records.{total}
-use Rattle.state.specs.State.{noRecord, closed, open-with, freshState, commandOf, recordsIn, recordsOf, withCommand, ascending, isZero, commandHolds, holds, hasShape}
+use Rattle.state.specs.State.{CommandState, State, noRecord, closed, open-with, freshState, commandOf, recordsIn, recordsOf, withCommand, ascending, isZero, commandHolds, holds, hasShape}
 
 -- One command replaced
 
-module _ (s : CacheState) (c : ℕ) (next : CommandState) where
+module _ (s : State) (c : ℕ) (next : CommandState) where
   pub command-same : c < length (s .commands) → commandOf (withCommand s c next) c ≡ next
   command-same h = getD-set-same (s .commands) c next closed h
 
@@ -32,7 +30,7 @@ module _ (s : CacheState) (c : ℕ) (next : CommandState) where
   holds-with h k = all-set commandHolds (s .commands) c next h k
 
 -- to put a command's own value in its place changes nothing
-pub command-kept : (s : CacheState) (c : ℕ) (next : CommandState) → next ≡ commandOf s c → withCommand s c next ≡ s
+pub command-kept : (s : State) (c : ℕ) (next : CommandState) → next ≡ commandOf s c → withCommand s c next ≡ s
 command-kept s c next e = rw e (λ i. record { commands = set-getD (s .commands) c closed i })
 
 pub records-open-with : (rs : List Record) → recordsIn (open-with rs) ≡ rs
@@ -77,11 +75,11 @@ kept-command p h =
       unused = and-right (few && up && small) unused h4;
     }
 
-pub each-holds : (s : CacheState) (c : ℕ) → holds s ≡ true → commandHolds (commandOf s c) ≡ true
+pub each-holds : (s : State) (c : ℕ) → holds s ≡ true → commandHolds (commandOf s c) ≡ true
 unfolding holds
 each-holds s c h = all-at commandHolds (s .commands) c closed h closed-holds
 
-pub kept : (s : CacheState) (c : ℕ) → holds s ≡ true → Kept (commandOf s c)
+pub kept : (s : State) (c : ℕ) → holds s ≡ true → Kept (commandOf s c)
 kept s c h = kept-command (commandOf s c) (each-holds s c h)
 
 -- Shape
@@ -90,15 +88,15 @@ pub fresh-shape : hasShape freshState ≡ true
 unfolding all
 fresh-shape = refl
 
-pub eight : (s : CacheState) → hasShape s ≡ true → length (s .commands) ≡ commandLimit
+pub eight : (s : State) → hasShape s ≡ true → length (s .commands) ≡ commandLimit
 eight s h = eqb-true _ _ (and-left (eqb (length (s .commands)) commandLimit) _ h)
 
-sixty-four : (s : CacheState) (c : ℕ) → hasShape s ≡ true → length (commandOf s c .records) ≡ recordLimit
+sixty-four : (s : State) (c : ℕ) → hasShape s ≡ true → length (commandOf s c .records) ≡ recordLimit
 sixty-four s c h =
     eqb-true _ _ (all-at (λ p. eqb (length (p .records)) recordLimit) (s .commands) c closed (and-right (eqb (length (s .commands)) commandLimit) _ h) refl)
 
 -- there is no open command beyond the last
-pub open-below : (s : CacheState) (c : ℕ) → hasShape s ≡ true → commandOf s c .opened ≡ true → c < commandLimit
+pub open-below : (s : State) (c : ℕ) → hasShape s ≡ true → commandOf s c .opened ≡ true → c < commandLimit
 open-below s c shape o = go (ltb c commandLimit) refl
   where
     go : (b : Bool) → ltb c commandLimit ≡ b → c < commandLimit
@@ -107,7 +105,7 @@ open-below s c shape o = go (ltb c commandLimit) refl
         let beyond : length (s .commands) ≤ c = omega (arith, eight s shape, ltb-false c commandLimit e) in
         absurd (false≢true (sym (ap (λ (p : CommandState). p .opened) (List·getD-eq-default (s .commands) closed beyond)) ∙ o))
 
-pub shape-with : (s : CacheState) (c : ℕ) (next : CommandState) → hasShape s ≡ true → length (next .records) ≡ recordLimit → hasShape (withCommand s c next) ≡ true
+pub shape-with : (s : State) (c : ℕ) (next : CommandState) → hasShape s ≡ true → length (next .records) ≡ recordLimit → hasShape (withCommand s c next) ≡ true
 shape-with s c next h k =
     both (eq-eqb _ _ (length-set (s .commands) c next ∙ eight s h))
     (all-set (λ p. eqb (length (p .records)) recordLimit) (s .commands) c next (and-right (eqb (length (s .commands)) commandLimit) _ h) (eq-eqb _ _ k))
@@ -135,7 +133,7 @@ open-with-padded p K size =
     ∙ ap (λ (l : List Record). recordsIn p ++ l) (zero-records (drop (p .count) (p .records)) (K .unused) ∙ ap (λ (k : ℕ). replicate k noRecord) back)
 
 -- an open command is its records
-pub open-with-own : (s : CacheState) (c : ℕ) → hasShape s ≡ true → holds s ≡ true → commandOf s c .opened ≡ true → open-with (recordsOf s c) ≡ commandOf s c
+pub open-with-own : (s : State) (c : ℕ) → hasShape s ≡ true → holds s ≡ true → commandOf s c .opened ≡ true → open-with (recordsOf s c) ≡ commandOf s c
 open-with-own s c shape whole opened =
     let p = commandOf s c in
     let K = kept s c whole in

@@ -9,9 +9,9 @@ use lib.Dec.{ltb, leb}
 use lib.ListN.{length, take, drop, getD, length-drop, take-append-drop, drop-of-length-le}
 use lib.Seq.{drop-cons, take-suc, getD-drop}
 use borrow.Author.Tests.{ltb-true, ltb-false, leb-true, leb-false}
-use Rattle.octets.proofs.Lists.{and-right}
+use Rattle.octets.proofs.Lists.{and-left, and-right}
 use Rattle.state.specs.declared.Record.{Record}
-use Rattle.state.specs.declared.join.Meeting.{Meeting}
+use Rattle.state.specs.declared.Meeting.{Meeting}
 use Rattle.state.specs.Records.{past, inSpan, held, total, place, highest, fresh}
 use Rattle.state.specs.State.{noRecord, ascending}
 use Rattle.state.specs.Cut.{Parted, Cut}
@@ -237,13 +237,14 @@ module _ (rs : List Record) (a n : ℕ) (m : Meeting) (F : Found rs a (suc n) m)
       go (suc k) is h = omega (arith, upto rs up k h, parted-start rs up k h .before, ends-inside k h is)
 
   -- an address of the union that was not held is in the span
-  only-span : (x : ℕ) → m .low ≤ x → x < m .high → held rs x ≡ false → x < a + suc n
+  only-span : (x : ℕ) → m .low ≤ x → x < m .high → held rs x ≡ false → (a ≤ x) × (x < a + suc n)
   only-span x h k none =
       let inside′ : held rs′ x ≡ true = held-middle (take (m .first) rs) u (drop (m .last) rs) x (within u x h (omega (arith, wide))) in
       let here : held rs′ x ≡ inSpan a (suc n) x = ap (λ (l : List Record). held l x) (sym (F .joins)) ∙ held-joined rs a (suc n) x ∙ rw none in
-      ltb-true x (a + suc n) (and-right (leb a x) (ltb x (a + suc n)) (sym here ∙ inside′))
+      let near : inSpan a (suc n) x ≡ true = sym here ∙ inside′ in
+      (leb-true a x (and-left (leb a x) (ltb x (a + suc n)) near), ltb-true x (a + suc n) (and-right (leb a x) (ltb x (a + suc n)) near))
 
-  pub cut-found : Cut rs m (fresh rs a (suc n)) (a + suc n)
+  pub cut-found : Cut rs m (fresh rs a (suc n)) a (a + suc n)
   cut-found = record {
     up = up;
     order = F .order;
@@ -257,9 +258,9 @@ module _ (rs : List Record) (a n : ℕ) (m : Meeting) (F : Found rs a (suc n) m)
     inside = only-span;
   }
 
--- where what is not held lies before e, it lies before all that is not below e
-pub cut-wider : (rs : List Record) (m : Meeting) (fresh e e′ : ℕ) → Cut rs m fresh e → e ≤ e′ → Cut rs m fresh e′
-cut-wider rs m fresh e e′ C h = record {
+-- where what is not held lies in a span, it lies in every wider one
+pub cut-wider : (rs : List Record) (m : Meeting) (fresh a e a′ e′ : ℕ) → Cut rs m fresh a e → a′ ≤ a → e ≤ e′ → Cut rs m fresh a′ e′
+cut-wider rs m fresh a e a′ e′ C h k = record {
   up = C .up;
   order = C .order;
   most = C .most;
@@ -269,5 +270,5 @@ cut-wider rs m fresh e e′ C h = record {
   below = C .below;
   bytes = C .bytes;
   counts = C .counts;
-  inside = λ x j k none. omega (arith, C .inside x j k none);
+  inside = λ x i j none. let near = C .inside x i j none in (omega arith, omega arith);
 }

@@ -10,11 +10,10 @@ use lib.Seq.{length-take-le, getD-take, getD-drop, ext-getD}
 use borrow.Author.Tests.{ltb-true, ltb-false, eqb-true, eqb-false}
 use Rattle.octets.proofs.Lists.{getD-past}
 use Rattle.state.specs.declared.Record.{Record}
-use Rattle.state.specs.declared.CommandState.{CommandState}
-use Rattle.state.specs.declared.join.Meeting.{Meeting}
+use Rattle.state.specs.declared.Meeting.{Meeting}
 use Rattle.state.specs.Limits.{recordLimit, windowLimit}
 use Rattle.state.specs.Records.{total, place, fresh, joined}
-use Rattle.state.specs.State.{noRecord, open-with, recordsIn, ascending}
+use Rattle.state.specs.State.{CommandState, noRecord, open-with, recordsIn, ascending}
 use Rattle.state.specs.Join.{unionOf, entryAfter, changedUpTo, meeting, spliced, Room}
 use Rattle.state.proofs.Commands.{kept-command, open-with-padded, length-open-with}
 use Rattle.state.proofs.Merge.{between}

@@ -7,7 +7,7 @@ use mathlib.Core.List.{List, [], _∷_, _++_}
 use mathlib.Core.Bool.{true}
 use lib.ListN.{length, take, drop, take-append-drop}
 use Rattle.state.specs.declared.Record.{Record}
-use Rattle.state.specs.declared.join.Meeting.{Meeting}
+use Rattle.state.specs.declared.Meeting.{Meeting}
 use Rattle.state.specs.Limits.{windowLimit}
 use Rattle.state.specs.Records.{past, total, fresh, joined}
 use Rattle.state.specs.State.{ascending}

@@ -12,7 +12,7 @@ use Rattle.octets.proofs.Lists.{both, and-left, and-right}
 use Rattle.state.specs.declared.Record.{Record}
 use Rattle.state.specs.Records.{past, inSpan, held, span, addresses, total, place, countFresh, fresh, shares, joined}
 use Rattle.state.specs.State.{ascending}
-use Rattle.state.proofs.Cases.{Side, before, meets, after, side, Ascends, ascends, inside, below, above}
+use Rattle.state.proofs.Cases.{Lies, over, within, beneath, lies, Ascends, ascends, inside, below, above}
 use Rattle.state.proofs.Merge.{merged, held-merged, ascending-merged, total-merged}
 use Rattle.state.proofs.Places.{place-all, place-low, held-low, place-grows, fresh-place, span-at, span-past, map-span, map-read, length-span}
 
@@ -48,26 +48,26 @@ length-addresses (r ∷ rs) = rw (length-append, length-span, length-addresses r
 pub place-below : (lo : ℕ) (rs : List Record) (x : ℕ) → ascending lo rs ≡ true → held rs x ≡ true → place rs x < total rs
 unfolding held place total
 place-below lo [] x up h = absurd (false≢true h)
-place-below lo (r ∷ rs) x up h = let u = ascends lo r rs up in go u (place-below (past r) rs x (u .rest)) (side x (suc x) r)
+place-below lo (r ∷ rs) x up h = let u = ascends lo r rs up in go u (place-below (past r) rs x (u .rest)) (lies x r)
   where
-    go : Ascends lo r rs → (held rs x ≡ true → place rs x < total rs) → Side x (suc x) r → place (r ∷ rs) x < total (r ∷ rs)
-    go u ih (before k) = omega (arith, ih (rw (above r x k) at h))
-    go u ih (meets j k) = omega (arith, place-low (past r) rs x (u .rest) (omega arith))
-    go u ih (after k) = omega (arith, ih (rw (below r x k) at h))
+    go : Ascends lo r rs → (held rs x ≡ true → place rs x < total rs) → Lies x r → place (r ∷ rs) x < total (r ∷ rs)
+    go u ih (over k) = omega (arith, ih (rw (above r x k) at h))
+    go u ih (within j k) = omega (arith, place-low (past r) rs x (u .rest) (omega arith))
+    go u ih (beneath k) = omega (arith, ih (rw (below r x k) at h))
 
 -- and what stands at that place, of a list made address by address, is what was made of that address
 pub at-place : (f : ℕ → ℕ) (d lo : ℕ) (rs : List Record) (x : ℕ) → ascending lo rs ≡ true → held rs x ≡ true → getD (map f (addresses rs)) (place rs x) d ≡ f x
 unfolding held place addresses
 at-place f d lo [] x up h = absurd (false≢true h)
-at-place f d lo (r ∷ rs) x up h = let u = ascends lo r rs up in go u (at-place f d (past r) rs x (u .rest)) (side x (suc x) r)
+at-place f d lo (r ∷ rs) x up h = let u = ascends lo r rs up in go u (at-place f d (past r) rs x (u .rest)) (lies x r)
   where
-    go : Ascends lo r rs → (held rs x ≡ true → getD (map f (addresses rs)) (place rs x) d ≡ f x) → Side x (suc x) r
+    go : Ascends lo r rs → (held rs x ≡ true → getD (map f (addresses rs)) (place rs x) d ≡ f x) → Lies x r
         → getD (map f (addresses (r ∷ rs))) (place (r ∷ rs) x) d ≡ f x
-    go u ih (before k) = rw (place-all r x k, span-past) (ih (rw (above r x k) at h))
-    go u ih (meets j k) =
+    go u ih (over k) = rw (place-all r x k, span-past) (ih (rw (above r x k) at h))
+    go u ih (within j k) =
         let e : min (r .len) (x - r .start) + place rs x ≡ x - r .start = omega (arith, place-low (past r) rs x (u .rest) (omega arith)) in
         rw e (span-at f d _ _ _ _ (omega arith) ∙ ap f (omega arith))
-    go u ih (after k) = absurd (false≢true (sym (held-low (past r) rs x (u .rest) (omega arith)) ∙ rw (below r x k) at h))
+    go u ih (beneath k) = absurd (false≢true (sym (held-low (past r) rs x (u .rest) (omega arith)) ∙ rw (below r x k) at h))
 
 -- two functions that agree at every held address make the same list
 pub map-held : (f g : ℕ → ℕ) (rs : List Record) → ((x : ℕ) → held rs x ≡ true → f x ≡ g x) → map f (addresses rs) ≡ map g (addresses rs)

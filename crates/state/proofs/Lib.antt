@@ -12,3 +12,4 @@ pub mod Found
 pub mod Entries
 pub mod Packed
 pub mod Cut
+pub mod Join

@@ -10,7 +10,7 @@ use Rattle.octets.proofs.Lists.{both}
 use Rattle.state.specs.declared.Record.{Record}
 use Rattle.state.specs.Records.{past, inSpan, held, total, place, keep, earlier, later, lowest, highest}
 use Rattle.state.specs.State.{ascending}
-use Rattle.state.proofs.Cases.{Side, before, meets, after, side, Ascends, ascends, ascending-cons, ascending-from, leb-same, inside, below, above}
+use Rattle.state.proofs.Cases.{Side, before, meets, after, side, Lies, over, within, beneath, lies, Ascends, ascends, ascending-cons, ascending-from, leb-same, inside, below, above}
 use Rattle.state.proofs.Places.{place-all, place-none, place-low, place-max}
 
 -- the record from l to h
@@ -69,12 +69,12 @@ keep-none p lo (r ∷ rs) up no′ =
 
 -- an address is within the union of two that overlap exactly if it is in one of them
 within-hull : (r : Record) (l h x : ℕ) → r .start ≤ h → l ≤ past r → (leb (min (r .start) l) x && ltb x (max (past r) h)) ≡ (inSpan (r .start) (r .len) x || (leb l x && ltb x h))
-within-hull r l h x j k = go (side x (suc x) r)
+within-hull r l h x j k = go (lies x r)
   where
-    go : Side x (suc x) r → (leb (min (r .start) l) x && ltb x (max (past r) h)) ≡ (inSpan (r .start) (r .len) x || (leb l x && ltb x h))
-    go (before t) = rw (above r x t, leb-same (min (r .start) l) x l x (omega arith) (omega arith), leb-same (suc x) (max (past r) h) (suc x) h (omega arith) (omega arith))
-    go (meets s t) = rw (inside r x (omega arith) t) (both (le-leb (min (r .start) l) x (omega arith)) (lt-ltb x (max (past r) h) (omega arith)))
-    go (after t) = rw (below r x t, leb-same (min (r .start) l) x l x (omega arith) (omega arith), leb-same (suc x) (max (past r) h) (suc x) h (omega arith) (omega arith))
+    go : Lies x r → (leb (min (r .start) l) x && ltb x (max (past r) h)) ≡ (inSpan (r .start) (r .len) x || (leb l x && ltb x h))
+    go (over t) = rw (above r x t, leb-same (min (r .start) l) x l x (omega arith) (omega arith), leb-same (suc x) (max (past r) h) (suc x) h (omega arith) (omega arith))
+    go (within s t) = rw (inside r x (omega arith) t) (both (le-leb (min (r .start) l) x (omega arith)) (lt-ltb x (max (past r) h) (omega arith)))
+    go (beneath t) = rw (below r x t, leb-same (min (r .start) l) x l x (omega arith) (omega arith), leb-same (suc x) (max (past r) h) (suc x) h (omega arith) (omega arith))
 
 -- the union's length is what both have, less what they share
 overlap : (r : Record) (l h : ℕ) → r .start ≤ h → l ≤ past r → l ≤ h

@@ -8,7 +8,7 @@ use mathlib.Core.Bool.{true}
 use lib.ListN.{length, take, drop, getD, length-map, length-drop, take-append-drop}
 use lib.Seq.{take-at, drop-at, take-add, length-take-le}
 use Rattle.state.specs.declared.Record.{Record}
-use Rattle.state.specs.declared.join.Meeting.{Meeting}
+use Rattle.state.specs.declared.Meeting.{Meeting}
 use Rattle.state.specs.Records.{held, span, addresses, total, place}
 use Rattle.state.specs.State.{ascending}
 use Rattle.state.specs.Join.{replaced}

@@ -10,7 +10,7 @@ use lib.Seq.{drop-cons}
 use Rattle.state.specs.declared.Record.{Record}
 use Rattle.state.specs.Records.{past, held, span, total, place, countFresh, fresh}
 use Rattle.state.specs.State.{ascending}
-use Rattle.state.proofs.Cases.{Side, before, meets, after, side, Ascends, ascends, inside, below, above}
+use Rattle.state.proofs.Cases.{Lies, over, within, beneath, lies, Ascends, ascends, inside, below, above}
 
 -- behind a record all of it counts
 pub place-all : (r : Record) (x : ℕ) → past r ≤ x → min (r .len) (x - r .start) ≡ r .len
@@ -48,13 +48,13 @@ held-low lo (r ∷ rs) x up h =
 pub place-suc : (lo : ℕ) (rs : List Record) (x : ℕ) → ascending lo rs ≡ true → place rs (suc x) ≡ place rs x + cond (held rs x) 1 0
 unfolding place held
 place-suc lo [] x up = refl
-place-suc lo (r ∷ rs) x up = let u = ascends lo r rs up in go u (place-suc (past r) rs x (u .rest)) (side x (suc x) r)
+place-suc lo (r ∷ rs) x up = let u = ascends lo r rs up in go u (place-suc (past r) rs x (u .rest)) (lies x r)
   where
-    go : Ascends lo r rs → place rs (suc x) ≡ place rs x + cond (held rs x) 1 0 → Side x (suc x) r
+    go : Ascends lo r rs → place rs (suc x) ≡ place rs x + cond (held rs x) 1 0 → Lies x r
         → place (r ∷ rs) (suc x) ≡ place (r ∷ rs) x + cond (held (r ∷ rs) x) 1 0
-    go u ih (before h) = rw (above r x h) (omega arith)
-    go u ih (meets h k) = rw (inside r x (omega arith) k) (omega (arith, place-low _ rs (suc x) (u .rest) k, place-low _ rs x (u .rest) (omega arith)))
-    go u ih (after h) = rw (below r x h) (omega arith)
+    go u ih (over h) = rw (above r x h) (omega arith)
+    go u ih (within h k) = rw (inside r x (omega arith) k) (omega (arith, place-low _ rs (suc x) (u .rest) k, place-low _ rs x (u .rest) (omega arith)))
+    go u ih (beneath h) = rw (below r x h) (omega arith)
 
 -- so the fresh addresses and the held ones of a span make up the span
 pub fresh-place : (lo : ℕ) (rs : List Record) (a n : ℕ) → ascending lo rs ≡ true → fresh rs a n + place rs (a + n) ≡ n + place rs a

@@ -8,7 +8,7 @@ use lib.Dec.{leb}
 use lib.ListN.{length, getD}
 use borrow.Author.Tests.{leb-true, leb-false, lt-ltb, le-ltb, le-leb, lt-leb, eq-eqb, ne-eqb}
 use Rattle.state.specs.declared.Record.{Record}
-use Rattle.state.specs.declared.join.Meeting.{Meeting}
+use Rattle.state.specs.declared.Meeting.{Meeting}
 use Rattle.state.specs.Records.{past}
 use Rattle.state.specs.State.{noRecord}
 use Rattle.state.specs.Join.{moved, widened, passed, searched, unmet, meeting, unionOf, entryAfter}

@@ -10,11 +10,10 @@ use lib.Seq.{paste, length-take-le, getD-take, getD-drop, ext-getD}
 use lib.Dec.{eqb}
 use Rattle.octets.proofs.Overwrite.{paste-more}
 use Rattle.state.specs.declared.Record.{Record}
-use Rattle.state.specs.declared.CommandState.{CommandState}
-use Rattle.state.specs.declared.join.Meeting.{Meeting}
+use Rattle.state.specs.declared.Meeting.{Meeting}
 use Rattle.state.specs.Limits.{recordLimit}
 use Rattle.state.specs.Records.{span}
-use Rattle.state.specs.State.{noRecord, recordsIn}
+use Rattle.state.specs.State.{CommandState, noRecord, recordsIn}
 use Rattle.state.specs.Join.{entryAfter, changedUpTo, spliced}
 use Rattle.state.proofs.Search.{entry-before}
 use Rattle.state.proofs.Places.{span-at, length-span}

@@ -5,18 +5,11 @@ use native.Mathlib.Numerals.{add-one}
 use mathlib.Core.Path.{_≡_, refl, ap, sym, _∙_}
 use mathlib.Core.List.{List, [], _∷_}
 use mathlib.Core.Bool.{Bool, true, false, _&&_}
-use mathlib.Core.Logic.{_≢_}
-use lib.Dec.{eqb, leb}
 use lib.ListN.{length, drop, getD, length-take, drop-of-length-le}
 use lib.Seq.{drop-cons, getD-take}
-use borrow.Author.Tests.{eqb-true, eqb-false, eq-eqb, ne-eqb}
 use Rattle.octets.specs.Lists.{all}
 use Rattle.state.specs.declared.Record.{Record}
-use Rattle.state.specs.declared.CommandState.{CommandState}
-use Rattle.state.specs.Limits.{heldLimit, windowLimit}
-use Rattle.state.specs.Records.{past, total}
-use Rattle.state.specs.State.{noRecord, recordsIn, ascending, isZero}
-use Rattle.state.proofs.Cases.{ascending-next}
+use Rattle.state.specs.State.{CommandState, noRecord, recordsIn}
 
 -- of any list
 next : {A : Type 0} (l : List A) (i : ℕ) (d : A) → i < length l → drop i l ≡ getD l i d ∷ drop (i + 1) l
@@ -35,45 +28,6 @@ module _ (p : CommandState) (i : ℕ) (h : i < length (recordsIn p)) where
 -- where the loop has passed them all, none is left
 pub no-record : (p : CommandState) (i : ℕ) → length (recordsIn p) ≤ i → drop i (recordsIn p) ≡ []
 no-record p i h = drop-of-length-le (recordsIn p) {i = i} h
-
--- what the loop over the rules of the records has still to find, where it has come to an address and a sum
-abbrev pub keptFrom : ℕ → ℕ → List Record → Bool
-keptFrom low sum rs = ascending low rs && leb (sum + total rs) heldLimit
-
-module _ (p : CommandState) (i low sum : ℕ) (h : i < length (recordsIn p)) {z : Bool} (e : keptFrom low sum (drop i (recordsIn p)) ≡ z) where
-  abbrev r : Record
-  r = getD (p .records) i noRecord
-
-  pub record-fails : ascending low (r ∷ drop (i + 1) (recordsIn p)) ≡ false → false ≡ z
-  record-fails k = rw k at (at-next p i h (keptFrom low sum) e)
-
-  pub record-kept : low ≤ r .start → past r ≢ r .start → past r ≤ windowLimit → keptFrom (past r) (sum + r .len) (drop (i + 1) (recordsIn p)) ≡ z
-  unfolding total
-  record-kept a b c =
-      let rest = drop (i + 1) (recordsIn p) in
-      let sums : sum + r .len + total rest ≡ sum + (r .len + total rest) = omega arith in
-      rw (← ascending-next low r rest a b c, sums) (at-next p i h (keptFrom low sum) e)
-
--- The same for the entries behind the records, which are zero if the sum of their fields is.
-
-zero-sum : (a b : ℕ) → eqb (a + b) 0 ≡ (eqb a 0 && eqb b 0)
-zero-sum a b = go (eqb a 0) refl (eqb b 0) refl
-  where
-    go : (p : Bool) → eqb a 0 ≡ p → (q : Bool) → eqb b 0 ≡ q → eqb (a + b) 0 ≡ (p && q)
-    go true e true f = eq-eqb (a + b) 0 (omega (arith, eqb-true a 0 e, eqb-true b 0 f))
-    go true e false f = ne-eqb (a + b) 0 (omega (arith, eqb-false b 0 f))
-    go false e q f = ne-eqb (a + b) 0 (omega (arith, eqb-false a 0 e))
-
-pub one-summed : (entries : List Record) (i sum : ℕ) → i < length entries
-    → (eqb (sum + getD entries i noRecord .start + getD entries i noRecord .len) 0 && all isZero (drop (i + 1) entries)) ≡ (eqb sum 0 && all isZero (drop i entries))
-unfolding all
-one-summed entries i sum h =
-    let r = getD entries i noRecord in
-    rw (zero-sum (sum + r .start) (r .len), zero-sum sum (r .start), next entries i noRecord h) (go (eqb sum 0) (eqb (r .start) 0) (eqb (r .len) 0) (all isZero (drop (i + 1) entries)))
-  where
-    go : (b c d e : Bool) → (b && c && d && e) ≡ (b && (c && d && e))
-    go true c d e = refl
-    go false c d e = refl
 
 -- The same for a test on the commands of a state.
 

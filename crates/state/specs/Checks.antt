@@ -5,11 +5,10 @@ use mathlib.Core.Bool.{not}
 use lib.Dec.{ltb, leb, eqb}
 use lib.ListN.{length}
 use Rattle.state.specs.declared.Record.{Record}
-use Rattle.state.specs.declared.CacheState.{CacheState}
 use Rattle.state.specs.declared.refusal.Refusal.the-variants.{LengthTooLong, CommandTooHigh, WindowTooLong, StoreWrongSize, OutsideWindow, BufferTooShort, StateBroken, CommandNotOpen, CommandAlreadyOpen, TooManyBytes, TooManyRecords, NoSuchRecord}
 use Rattle.state.specs.Limits.{commandLimit, recordLimit, heldLimit, transferLimit, windowLimit, storeSize}
 use Rattle.state.specs.Records.{total, fresh, joined}
-use Rattle.state.specs.State.{holds, isOpen}
+use Rattle.state.specs.State.{State, holds, isOpen}
 use Rattle.state.specs.Refusals.{number}
 use Rattle.state.specs.Verdict.{Check, _⇒_}
 
@@ -38,15 +37,15 @@ abbrev pub bufferTooShort : (bufferLen n : ℕ) → Check
 bufferTooShort bufferLen n = ltb bufferLen n ⇒ number BufferTooShort
 
 -- 20: a state that does not hold together
-abbrev pub stateBroken : CacheState → Check
+abbrev pub stateBroken : State → Check
 stateBroken s = not (holds s) ⇒ number StateBroken
 
 -- 21: a command that should be open and is not
-abbrev pub commandNotOpen : CacheState → ℕ → Check
+abbrev pub commandNotOpen : State → ℕ → Check
 commandNotOpen s c = not (isOpen s c) ⇒ number CommandNotOpen
 
 -- 22: a command that should be closed and is not
-abbrev pub commandAlreadyOpen : CacheState → ℕ → Check
+abbrev pub commandAlreadyOpen : State → ℕ → Check
 commandAlreadyOpen s c = isOpen s c ⇒ number CommandAlreadyOpen
 
 -- 23: no room for the bytes, counted as those held and the fresh ones of the span

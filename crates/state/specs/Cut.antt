@@ -6,7 +6,7 @@ use mathlib.Core.List.{List}
 use mathlib.Core.Bool.{true, false}
 use lib.ListN.{length, take, drop}
 use Rattle.state.specs.declared.Record.{Record}
-use Rattle.state.specs.declared.join.Meeting.{Meeting}
+use Rattle.state.specs.declared.Meeting.{Meeting}
 use Rattle.state.specs.Records.{held, total, highest}
 use Rattle.state.specs.State.{ascending}
 
@@ -16,8 +16,8 @@ pub record Parted (rs : List Record) (q x : ℕ) : Type 0 where
   pub behind : ascending x (drop q rs) ≡ true
 
 -- The joined record reaches from one such address to another. All records that lie between them are met, and what is not held
--- between them lies before e, the end of the span.
-pub record Cut (rs : List Record) (m : Meeting) (fresh e : ℕ) : Type 0 where
+-- between them lies in the span from a up to e.
+pub record Cut (rs : List Record) (m : Meeting) (fresh a e : ℕ) : Type 0 where
   pub up : ascending 0 rs ≡ true
   pub order : m .first ≤ m .last
   pub most : m .last ≤ length rs
@@ -27,4 +27,4 @@ pub record Cut (rs : List Record) (m : Meeting) (fresh e : ℕ) : Type 0 where
   pub below : m .below ≡ total (take (m .first) rs)
   pub bytes : m .below + m .held ≡ total (take (m .last) rs)
   pub counts : fresh + m .held ≡ m .high - m .low
-  pub inside : (x : ℕ) → m .low ≤ x → x < m .high → held rs x ≡ false → x < e
+  pub inside : (x : ℕ) → m .low ≤ x → x < m .high → held rs x ≡ false → (a ≤ x) × (x < e)

@@ -8,12 +8,10 @@ use mathlib.Core.Bool.{true, false, cond}
 use lib.Dec.{ltb, leb, eqb}
 use lib.ListN.{length, take, drop, getD}
 use Rattle.state.specs.declared.Record.{Record}
-use Rattle.state.specs.declared.CommandState.{CommandState}
-use Rattle.state.specs.declared.join.Meeting.{Meeting}
-use Rattle.state.specs.declared.join.Join.{Join}
+use Rattle.state.specs.declared.Meeting.{Meeting}
 use Rattle.state.specs.Limits.{recordLimit, heldLimit, windowLimit}
 use Rattle.state.specs.Records.{past, span, total, place, fresh, joined}
-use Rattle.state.specs.State.{noRecord, open-with, recordsIn, commandHolds}
+use Rattle.state.specs.State.{CommandState, noRecord, open-with, recordsIn, commandHolds}
 use Rattle.state.specs.Cut.{Cut}
 
 -- a record that lies before the span, and one that meets it and widens the union
@@ -64,6 +62,14 @@ spliced p m =
       records = take end (map (entryAfter (p .records) m) (span 0 recordLimit)) ++ drop end (p .records);
     }
 
+-- what joining a span gives: how it met the records, how many of its bytes are fresh, where its first address stands among the
+-- packed bytes, and the command with the records joined
+pub record Join : Type 0 where
+  pub meeting : Meeting
+  pub fresh : ℕ
+  pub place : ℕ
+  pub command : CommandState
+
 unfoldable pub join : CommandState → (a e : ℕ) → Join
 join p a e =
     let m = meeting (recordsIn p) a e in
@@ -94,10 +100,5 @@ pub record Judged (p : CommandState) (a n : ℕ) (r : Join) : Type 0 where
 pub record Joined (p : CommandState) (a n : ℕ) (r : Join) : Type 0 where
   pub records : r .command ≡ open-with (joined (recordsIn p) a n)
   pub place : r .place ≡ place (joined (recordsIn p) a n) a
-  pub cut : Cut (recordsIn p) (r .meeting) (r .fresh) (a + n)
+  pub cut : Cut (recordsIn p) (r .meeting) (r .fresh) a (a + n)
   pub replaces : joined (recordsIn p) a n ≡ replaced (recordsIn p) (r .meeting)
-
-pub record Joins (p : CommandState) (a e : ℕ) (r : Join) : Type 0 where
-  pub is : r ≡ join p a e
-  pub judged : (n : ℕ) → e ≡ a + suc n → commandHolds p ≡ true → Judged p a (suc n) r
-  pub room : (n : ℕ) → e ≡ a + suc n → Room p a (suc n) → Joined p a (suc n) r

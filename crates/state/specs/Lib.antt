@@ -1,9 +1,9 @@
 pub mod Limits
 pub mod Records
 pub mod State
+pub mod Words
 pub mod Cut
 pub mod Join
-pub mod Bounds
 pub mod Refusals
 pub mod Verdict
 pub mod Checks

@@ -26,6 +26,13 @@ windowLimit = 65536
 abbrev pub storeSize : ℕ
 storeSize = 32768
 
+-- how many words stand for a command, and for a state: one and two for each entry, and those of every command
+abbrev pub commandWords : ℕ
+commandWords = 129
+
+abbrev pub stateWords : ℕ
+stateWords = 1032
+
 -- all of them, as the code has them
 abbrev pub limits : Limits
 limits = record {
@@ -35,4 +42,6 @@ limits = record {
   transfer = transferLimit;
   window = windowLimit;
   store = storeSize;
+  «command_words» = commandWords;
+  words = stateWords;
 }

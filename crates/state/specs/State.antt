@@ -6,10 +6,18 @@ use lib.Dec.{ltb, leb, eqb}
 use lib.ListN.{length, take, drop, getD, replicate, set}
 use Rattle.octets.specs.Lists.{all}
 use Rattle.state.specs.declared.Record.{Record}
-use Rattle.state.specs.declared.CommandState.{CommandState}
-use Rattle.state.specs.declared.CacheState.{CacheState}
 use Rattle.state.specs.Limits.{commandLimit, recordLimit, heldLimit, windowLimit}
 use Rattle.state.specs.Records.{past, total}
+
+-- one command: whether it is open, and its records in ascending order in the first `count` of its entries
+pub record CommandState : Type 0 where
+  pub opened : Bool
+  pub count : ℕ
+  pub records : List Record
+
+-- 01's book. `Words` says which words of a lent array stand for it.
+pub record State : Type 0 where
+  pub commands : List CommandState
 
 -- what stands in an entry that is not used
 abbrev pub noRecord : Record
@@ -28,22 +36,22 @@ abbrev pub open-with : List Record → CommandState
 open-with rs = record { opened = true; count = length rs; records = rs ++ replicate (recordLimit - length rs) noRecord }
 
 -- 01's fresh book
-abbrev pub freshState : CacheState
+abbrev pub freshState : State
 freshState = record { commands = replicate commandLimit closed }
 
-abbrev pub commandOf : CacheState → ℕ → CommandState
+abbrev pub commandOf : State → ℕ → CommandState
 commandOf s c = getD (s .commands) c closed
 
 abbrev pub recordsIn : CommandState → List Record
 recordsIn c = take (c .count) (c .records)
 
-abbrev pub recordsOf : CacheState → ℕ → List Record
+abbrev pub recordsOf : State → ℕ → List Record
 recordsOf s c = recordsIn (commandOf s c)
 
-abbrev pub isOpen : CacheState → ℕ → Bool
+abbrev pub isOpen : State → ℕ → Bool
 isOpen s c = commandOf s c .opened
 
-abbrev pub withCommand : CacheState → ℕ → CommandState → CacheState
+abbrev pub withCommand : State → ℕ → CommandState → State
 withCommand s c next = record { commands = set (s .commands) c next }
 
 -- 01's rules for a list of records: each starts at or behind the end of the one before it (lo for the first), is not empty, and
@@ -63,9 +71,9 @@ commandHolds c =
     && all isZero (drop (c .count) (c .records)) && (c .opened || eqb (c .count) 0)
 
 -- 01's book that holds together: every command does
-unfoldable pub holds : CacheState → Bool
+unfoldable pub holds : State → Bool
 holds s = all commandHolds (s .commands)
 
 -- What the types of the code give of every state: 8 commands of 64 record entries.
-abbrev pub hasShape : CacheState → Bool
+abbrev pub hasShape : State → Bool
 hasShape s = eqb (length (s .commands)) commandLimit && all (λ c. eqb (length (c .records)) recordLimit) (s .commands)

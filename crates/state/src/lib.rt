@@ -1,15 +1,12 @@
-// The state of the fetch cache: which commands are open, and which host bytes each of them holds.
+// The state of the fetch cache: which commands are open, and which host bytes each of them holds. Definitions in specs/ say what the
+// words of a state stand for, and laws in proofs/ say what its records do. The code that reads and changes the words is in `words`.
 ghost use mathlib.Core.Path.{_≡_};
 ghost use Rattle.state.specs.Limits.{limits};
-ghost use Rattle.state.specs.State.{empty, freshState};
+ghost use Rattle.state.specs.State.{freshState};
+ghost use Rattle.state.specs.Words.{stateOf};
 
-mod holds;
-mod join;
 mod refusal;
 
-pub use holds::wide;
-pub use join::Join;
-pub use join::Meeting;
 pub use refusal::Refusal;
 
 // A run of held addresses. An address is below 65,536 and a record holds at most 4,096 bytes, so 16 bits serve for both.
@@ -18,19 +15,24 @@ pub struct Record {
     pub len: u16,
 }
 
-// One command: whether it is open, and its records in ascending order in the first `count` entries.
-pub struct CommandState {
-    pub opened: bool,
-    pub count: usize,
-    pub records: [Record; CacheState::RECORDS],
+// How a span lies among the records of a command. It meets those from `first` up to `last`, which together with the span
+// reach from `low` up to `high`. The records before them hold `below` bytes, and those that are met hold `held`.
+pub struct Meeting {
+    pub first: usize,
+    pub last: usize,
+    pub low: usize,
+    pub high: usize,
+    pub below: usize,
+    pub held: usize,
 }
 
-// Document 01 calls it the book.
+// Document 01 calls it the book. Of each command there are 129 words: 0 if it is closed, and else one more than the number of its
+// records; then the start and the length of each of its 64 entries.
 pub struct CacheState {
-    pub commands: [CommandState; CacheState::COMMANDS],
+    pub words: [u16; CacheState::WORDS],
 }
 
-// The limits of the device, side by side.
+// The limits of the device, side by side, and how many words a command and a state have.
 pub struct Limits {
     pub commands: usize,
     pub records: usize,
@@ -38,6 +40,8 @@ pub struct Limits {
     pub transfer: usize,
     pub window: usize,
     pub store: usize,
+    pub command_words: usize,
+    pub words: usize,
 }
 
 impl CacheState {
@@ -52,6 +56,10 @@ impl CacheState {
     pub const WINDOW: usize = 65536;
     // The one length of the store.
     pub const STORE: usize = 32768;
+    // The words of a command, and of a state.
+    pub const COMMAND_WORDS: usize = 1 + 2 * CacheState::RECORDS;
+
+    pub const WORDS: usize = CacheState::COMMANDS * CacheState::COMMAND_WORDS;
 
     // The constants are those of the definitions.
     pub fn limits() -> Limits
@@ -64,30 +72,17 @@ impl CacheState {
             transfer: CacheState::TRANSFER,
             window: CacheState::WINDOW,
             store: CacheState::STORE,
+            command_words: CacheState::COMMAND_WORDS,
+            words: CacheState::WORDS,
         }
     }
 
-    // Every command is closed and holds nothing.
+    // Every command is closed and holds nothing: all words are zero.
     pub fn fresh() -> CacheState
-        ensures { λ r. ⌜ r ≡ freshState ⌝ }
+        ensures { λ r. ⌜ stateOf (r .words) ≡ freshState ⌝ }
     {
-        let closed = CommandState::empty(false);
         CacheState {
-            commands: [closed; CacheState::COMMANDS],
-        }
-    }
-}
-
-impl CommandState {
-    // A command that holds nothing.
-    pub fn empty(opened: bool) -> CommandState
-        ensures { λ r. ⌜ r ≡ empty opened ⌝ }
-    {
-        let unused = Record { start: 0, len: 0 };
-        CommandState {
-            opened,
-            count: 0,
-            records: [unused; CacheState::RECORDS],
+            words: [0; CacheState::WORDS],
         }
     }
 }

@@ -1,11 +1,11 @@
 //! One journal with its buffers, run by the library and by the reference.
 
-use boundary::{replay, Lent};
+use boundary::{journal_replay, Replayed};
 use compare::journals::journal;
 use compare::tally::Tally;
 use sampling::generator::Generator;
 
-use crate::expected::Run;
+use crate::expected::Expected;
 use crate::lent::{self, Buffers, Room};
 
 /// Added to a journal's seed, so that its buffers are drawn apart from it.
@@ -16,7 +16,7 @@ pub struct Case {
     name: String,
     input: Vec<u8>,
     given: Buffers,
-    run: Run,
+    expected: Expected,
     room: Room,
 }
 
@@ -52,29 +52,26 @@ impl Case {
         mut given: Buffers,
         choose: impl FnOnce(usize) -> (Room, Vec<u8>),
     ) -> Case {
-        let mut run = Run::of(&input, given.clone());
-        let (room, output) = choose(run.log.len());
-        run.buffers.output = output.clone();
+        let mut expected = Expected::of(&input, given.clone());
+        let (room, output) = choose(expected.run.log.len());
+        expected.buffers.output = output.clone();
         given.output = output;
         Case {
             name,
             input,
             given,
-            run,
+            expected,
             room,
         }
     }
 
     /// Runs the library and compares its reply and every buffer.
     pub fn compare(self) -> Outcome {
-        let tally = Tally::of_log(&self.run.log);
-        let written = self.run.log.len().min(self.given.output.len());
-        let expected = self.run.leaves();
+        let tally = Tally::of_log(self.expected.run.log.as_bytes());
+        let (right, expected) = self.expected.leaves();
         let (reply, found) = run_library(&self.input, self.given);
-        let mut wrong = different_buffers(&expected, &found);
-        if reply != written {
-            wrong.push("reply");
-        }
+        let mut wrong = different_members(&right, &reply);
+        wrong.extend(different_buffers(&expected, &found));
         let complaint = format!("differs: {}: {}\n", self.name, wrong.join(", "));
         Outcome {
             tally,
@@ -85,30 +82,41 @@ impl Case {
 }
 
 /// What the library replies, and the buffers after it.
-fn run_library(input: &[u8], mut buffers: Buffers) -> (usize, Buffers) {
-    let lent = Lent {
-        store: &mut buffers.store,
-        destination: &mut buffers.destination,
-        output: &mut buffers.output,
-        summary: &mut buffers.summary,
-    };
-    let reply = replay(input, &mut buffers.window, lent);
+fn run_library(input: &[u8], mut buffers: Buffers) -> (Replayed, Buffers) {
+    let reply = journal_replay(
+        input,
+        &mut buffers.store,
+        &mut buffers.window,
+        &mut buffers.destination,
+        &mut buffers.output,
+    );
     (reply, buffers)
+}
+
+/// The names of the reply's members that are not equal.
+fn different_members(expected: &Replayed, found: &Replayed) -> Vec<&'static str> {
+    unequal([
+        ("written", expected.written == found.written),
+        ("carried", expected.carried == found.carried),
+        ("refused", expected.refused == found.refused),
+        ("early", expected.early == found.early),
+    ])
 }
 
 /// The names of the buffers that are not equal.
 fn different_buffers(expected: &Buffers, found: &Buffers) -> Vec<&'static str> {
-    [
+    unequal([
         ("store", expected.store == found.store),
         ("window", expected.window == found.window),
         ("destination", expected.destination == found.destination),
         ("output", expected.output == found.output),
-        ("summary", expected.summary == found.summary),
-    ]
-    .into_iter()
-    .filter(|(_, equal)| !equal)
-    .map(|(name, _)| name)
-    .collect()
+    ])
+}
+
+/// The names that are not marked as equal.
+fn unequal(marked: [(&'static str, bool); 4]) -> Vec<&'static str> {
+    let wrong = marked.into_iter().filter(|(_, equal)| !equal);
+    wrong.map(|(name, _)| name).collect()
 }
 
 #[cfg(test)]
@@ -121,8 +129,7 @@ mod tests {
             "store" => &mut buffers.store,
             "window" => &mut buffers.window,
             "destination" => &mut buffers.destination,
-            "output" => &mut buffers.output,
-            _ => &mut buffers.summary,
+            _ => &mut buffers.output,
         };
         buffer[0] ^= 1;
         buffers
@@ -133,9 +140,27 @@ mod tests {
         let mut given = lent::of_the_log_program();
         given.output = vec![0; 10];
         assert!(different_buffers(&given, &given).is_empty());
-        for name in ["store", "window", "destination", "output", "summary"] {
+        for name in ["store", "window", "destination", "output"] {
             let found = changed(name, given.clone());
             assert_eq!(different_buffers(&given, &found), [name]);
+        }
+    }
+
+    #[test]
+    fn one_changed_member_is_named() {
+        let right = Expected::of(&[0; 11], lent::of_the_log_program());
+        let (right, _) = right.leaves();
+        let (written, carried) = (right.written + 1, right.carried + 1);
+        let (refused, early) = (right.refused + 1, right.early ^ 1);
+        let changes = [
+            ("written", Replayed { written, ..right }),
+            ("carried", Replayed { carried, ..right }),
+            ("refused", Replayed { refused, ..right }),
+            ("early", Replayed { early, ..right }),
+        ];
+        assert!(different_members(&right, &right).is_empty());
+        for (name, found) in changes {
+            assert_eq!(different_members(&right, &found), [name]);
         }
     }
 

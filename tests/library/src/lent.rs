@@ -12,7 +12,6 @@ pub struct Buffers {
     pub window: Vec<u8>,
     pub destination: Vec<u8>,
     pub output: Vec<u8>,
-    pub summary: Vec<u8>,
 }
 
 /// How an output's length stands to the log's.
@@ -44,13 +43,11 @@ pub fn without_output(numbers: &mut Generator) -> Buffers {
     let store = store_length(numbers);
     let window = window_length(numbers);
     let destination = destination_length(numbers);
-    let summary = numbers.below(20) as usize;
     Buffers {
         store: numbers.bytes(store),
         window: numbers.bytes(window),
         destination: numbers.bytes(destination),
         output: vec![],
-        summary: numbers.bytes(summary),
     }
 }
 
@@ -61,7 +58,6 @@ pub fn of_the_log_program() -> Buffers {
         window: vec![0; WINDOW as usize],
         destination: vec![0; BYTES_PER_CALL],
         output: vec![],
-        summary: vec![0; 32],
     }
 }
 

@@ -1,8 +1,8 @@
 //! `library`: runs journals through the proved library, which it links, and
-//! through the reference, and compares all that each leaves.
+//! through the reference, and compares all that each replies and leaves.
 //!
 //! - [`lent`]: the buffers of a run.
-//! - [`expected`]: what a run must leave, by the reference.
+//! - [`expected`]: what a run must reply and leave, by the reference.
 //! - [`case`]: one journal with its buffers, compared.
 //! - [`fixed`]: the cases of every run.
 //! - [`sums`]: all cases, and what came of them.
@@ -20,9 +20,9 @@ const USAGE: &str = "\
 usage: library [--journals N] [--seed S]
 
 Runs fixed and random journals through the proved library and through the
-reference: the reply, output, summary, store, window and destination must be
-equal after each. Each kind of accepted call, each refusal that a journal can
-bring about and each kind of room of an output is a check of its own.
+reference: the reply, output, store, window and destination must be equal
+after each. Each kind of accepted call, each refusal that a journal can bring
+about and each kind of room of an output is a check of its own.
 
   --journals N  N random journals (1000)
   --seed S      seed of the first journal; the next one has S + 1 (0)

@@ -1,5 +1,5 @@
 -- The buffers keep their lengths, and each frame that does not end the run takes up a byte at least. The measure is the bytes left.
-use Prim.Native.Nat.{ℕ, _-_, _≤_}
+use Prim.Native.Nat.{ℕ, _-_, _≤_, _<_, _^_}
 use native.Mathlib.Omega.{arith}
 use mathlib.Core.Path.{_≡_, sym}
 use mathlib.Core.List.{List}
@@ -20,82 +20,44 @@ Inv-loop input store₀ window₀ destination₀ line₀ state₀ number₀ at�
 abbrev μ-loop : tie.MeasureT-loop
 μ-loop input store₀ window₀ destination₀ line₀ state₀ number₀ at₀ store window destination line state number at = length input - at
 
-fresh-requires : tie.Need-fresh-requires Inv-loop μ-loop
-fresh-requires c κs = search needs
-
-loop-holds : tie.Need-loop-holds Inv-loop μ-loop
-loop-holds c = omega arith
-
-add-log-frame : tie.Need-add-log-frame Inv-loop μ-loop
-add-log-frame c = omega arith
-
-sub-log-frame : tie.Need-sub-log-frame Inv-loop μ-loop
-sub-log-frame c = omega arith
-
-part-log-frame-start : tie.Need-part-log-frame-start Inv-loop μ-loop
-part-log-frame-start c = omega arith
-
-part-log-frame-end : tie.Need-part-log-frame-end Inv-loop μ-loop
-part-log-frame-end c = omega arith
-
-slice-aggregate-log-frame : tie.Need-slice-aggregate-log-frame Inv-loop μ-loop
-slice-aggregate-log-frame c = omega arith
-
-slice-aggregate-log-frame-2 : tie.Need-slice-aggregate-log-frame-2 Inv-loop μ-loop
-slice-aggregate-log-frame-2 c = omega arith
-
-slice-aggregate-log-frame-3 : tie.Need-slice-aggregate-log-frame-3 Inv-loop μ-loop
-slice-aggregate-log-frame-3 c = omega arith
-
-slice-aggregate-log-frame-4 : tie.Need-slice-aggregate-log-frame-4 Inv-loop μ-loop
-slice-aggregate-log-frame-4 c = omega arith
-
-log-frame-requires : tie.Need-log-frame-requires Inv-loop μ-loop
-log-frame-requires c κs = search needs
-
 -- a frame logged: it took up no more bytes than there were, and its line lies in the buffer
 module _ (g : tie.After-log-frame Inv-loop μ-loop) where
+  abbrev l : tie.At-loop Inv-loop μ-loop
+  l = g .before .before .before .before .before .before .before .before
+
+  abbrev start : tie.Start Inv-loop μ-loop
+  start = l .before .before .before
+
   abbrev input : List ℕ
-  input = now (g .before .before .before .before .before .before .before .before .before .before .args .input)
+  input = now (start .args .input)
 
-  abbrev at : ℕ
-  at = g .before .before .before .before .before .before .before .loop .at
+  abbrev line : List ℕ
+  line = g .log-frame .last .1 .1 .1 .1 .1 .1 .0
 
-  most : g .log-frame .result .taken ≤ length input - at
+  bound : length input < 2 ^ 64
+  bound = start .good .0 .0
+
+  most : g .log-frame .result .taken ≤ length input - l .loop .at
   most =
-      let frame = take (length input - at) (drop at input) in
+      let frame = take (length input - l .loop .at) (drop (l .loop .at) input) in
       let taken : g .log-frame .result .taken ≡ takenUp frame = g .log-frame .ensures .taken in
-      omega (arith, taken-most frame, length-take (length input - at) (drop at input))
+      omega (arith, taken-most frame, length-take (length input - l .loop .at) (drop (l .loop .at) input))
 
-  fits : g .log-frame .result .next ≤ length (g .log-frame .last .1 .1 .1 .1 .1 .1 .0)
+  fits : g .log-frame .result .next ≤ length line
   fits = omega (arith, g .log-frame .ensures .line .next, puts-length (g .log-frame .ensures .line))
 
-array-share-prefix-line : tie.Need-array-share-prefix-line Inv-loop μ-loop
-array-share-prefix-line c = omega arith
-
 slice-aggregate-write-all : tie.Need-slice-aggregate-write-all Inv-loop μ-loop
-slice-aggregate-write-all c = let g = c .before .before .before .before .before in sym (length-take-le (g .log-frame .result .next) (g .log-frame .last .1 .1 .1 .1 .1 .1 .0) (fits g))
+slice-aggregate-write-all c = let g = c .before .before .before .before .before in sym (length-take-le (g .log-frame .result .next) (line g) (fits g))
 
-write-all-requires : tie.Need-write-all-requires Inv-loop μ-loop
-write-all-requires c κs = search needs
-
-returns : tie.Need-returns Inv-loop μ-loop
-returns c = search needs
-
-add-number : tie.Need-add-number Inv-loop μ-loop
-add-number c = omega arith
+-- where a frame was read
+abbrev logged : tie.Else1 Inv-loop μ-loop → tie.After-log-frame Inv-loop μ-loop
+logged c = c .before .before .before .before .before .before .before
 
 add-at : tie.Need-add-at Inv-loop μ-loop
-add-at c = omega (arith, most (c .before .before .before .before .before .before .before .before), c .before .before .before .before .before .before .before .before .before .before .before .before .before .before .before .before .before .before .good .0 .0)
-
-loop-less : tie.Need-loop-less Inv-loop μ-loop
-loop-less c = omega arith
+add-at c = omega (arith, most (logged c), bound (logged c))
 
 loop-again : tie.Need-loop-again Inv-loop μ-loop
-loop-again c = omega (arith, most (c .before .before .before .before .before .before .before .before))
-
-returns-2 : tie.Need-returns-2 Inv-loop μ-loop
-returns-2 c = search needs
+loop-again c = omega (arith, most (logged c))
 
 pub print-log-spec : {M : Type 1} → statement M
 print-log-spec =
@@ -103,23 +65,23 @@ print-log-spec =
     (tie.spec
     Inv-loop
     μ-loop
-    fresh-requires
-    loop-holds
-    add-log-frame
-    sub-log-frame
-    part-log-frame-start
-    part-log-frame-end
-    slice-aggregate-log-frame
-    slice-aggregate-log-frame-2
-    slice-aggregate-log-frame-3
-    slice-aggregate-log-frame-4
-    log-frame-requires
-    array-share-prefix-line
+    (λ c κs. search needs)
+    (λ c. omega arith)
+    (λ c. omega arith)
+    (λ c. omega arith)
+    (λ c. omega arith)
+    (λ c. omega arith)
+    (λ c. omega arith)
+    (λ c. omega arith)
+    (λ c. omega arith)
+    (λ c. omega arith)
+    (λ c κs. search needs)
+    (λ c. omega arith)
     slice-aggregate-write-all
-    write-all-requires
-    returns
-    add-number
+    (λ c κs. search needs)
+    (λ c. search needs)
+    (λ c. omega arith)
     add-at
-    loop-less
+    (λ c. omega arith)
     loop-again
-    returns-2)
+    (λ c. search needs))

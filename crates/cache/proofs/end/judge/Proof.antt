@@ -1,65 +1,67 @@
--- The checks in their order: the first that applies is given.
+-- The checks in their order: the first that applies is given. Each test that is passed makes its check false.
 use Prim.Native.Nat.{ℕ}
 use native.Mathlib.Omega.{arith}
 use mathlib.Core.Path.{_≡_, ap, ap₂, sym, _∙_}
-use mathlib.Core.Bool.{not}
 use mathlib.Core.List.{[], _∷_}
-use lib.ListN.{length, length-map}
+use mathlib.Core.Bool.{true, false}
+use lib.Dec.{leb, eqb}
+use lib.ListN.{length}
+use borrow.Author.Needs.{needs}
 use borrow.Author.Tests.{le-leb, lt-leb, eq-eqb, ne-eqb, not-true, not-false}
-use Rattle.octets.proofs.Lists.{getD-within}
-use Rattle.state.specs.declared.CommandState.{CommandState}
+use denote.Ref.{now}
 use Rattle.state.specs.Limits.{commandLimit, storeSize}
 use Rattle.state.specs.Records.{total}
-use Rattle.state.specs.State.{closed, recordsIn}
-use Rattle.state.specs.Verdict.{replied}
-use Rattle.state.proofs.Verdict.{verdict-stops, verdict-goes-on, verdict-gives}
+use Rattle.state.specs.State.{CommandState, recordsIn, holds}
+use Rattle.state.specs.Words.{stateOf}
+use Rattle.state.specs.Verdict.{replied, verdict}
+use Rattle.words.proofs.StateWords.{lent-command}
 use Rattle.cache.specs.End.{endSays}
-use borrow.Author.Needs.{needs}
 use Rattle.cache.proofs.end.judge.Statement.{statement}
 use Rattle.cache.proofs.end.judge.Tie as tie
 
+command-low : (c : tie.Else1) → leb commandLimit (c .before .before .args .command) ≡ false
+command-low c = lt-leb commandLimit (c .before .before .args .command) (omega arith)
+
+store-sized : (c : tie.Else2) → eqb (c .before .before .before .args .store-len) storeSize ≡ true
+store-sized c = eq-eqb (c .before .before .before .args .store-len) storeSize (omega arith)
+
+state-whole : (c : tie.Else3) → holds (stateOf (now (c .before .before .before .before .before .args .state))) ≡ true
+state-whole c = sym (c .before .holds .ensures) ∙ not-false _ (c .if3 .left)
+
 returns : tie.Need-returns
-unfolding endSays
-returns c = verdict-stops _ _ _ _ (le-leb commandLimit (c .before .args .command) (omega arith))
+unfolding endSays verdict
+returns c = rw (le-leb commandLimit (c .before .before .args .command) (omega arith))
 
 returns-2 : tie.Need-returns-2
-unfolding endSays
-returns-2 c = verdict-goes-on _ _ _ _ (lt-leb commandLimit (c .before .before .args .command) (omega arith)) (verdict-stops _ _ _ _ (ap not (ne-eqb (c .before .before .args .store-len) storeSize (omega arith))))
-
-holds-requires : tie.Need-holds-requires
-holds-requires c κs = search needs
+unfolding endSays verdict
+returns-2 c = rw (command-low (c .before), ne-eqb (c .before .before .before .args .store-len) storeSize (omega arith))
 
 returns-3 : tie.Need-returns-3
-unfolding endSays
-returns-3 c = verdict-goes-on _ _ _ _ (lt-leb commandLimit (c .before .before .before .before .args .command) (omega arith)) (verdict-goes-on _ _ _ _ (ap not (eq-eqb (c .before .before .before .before .args .store-len) storeSize (omega arith))) (verdict-stops _ _ _ _ (ap not (sym (c .before .holds .ensures .0) ∙ not-true _ (c .if3 .taken)))))
-
-mul-c : tie.Need-mul-c
-mul-c c = search needs
-
-element-copy-out-c : tie.Need-element-copy-out-c
-element-copy-out-c c = search needs
+unfolding endSays verdict
+returns-3 c =
+    let sized = c .before .before in
+    rw (command-low (sized .before), store-sized sized, sym (c .before .holds .ensures) ∙ not-true _ (c .if3 .taken))
 
 returns-4 : tie.Need-returns-4
-unfolding endSays
+unfolding endSays verdict
 returns-4 c =
-    let size : length (c .before .before .before .before .before .before .args .t1 .commands) ≡ commandLimit = simp length-map at (c .before .before .before .before .before .before .good .0 .1 .1 .0 .1 .0 .1) in
-    let same = getD-within (c .before .before .before .before .before .before .args .t1 .commands) (c .before .before .before .before .before .before .args .command) closed _ (omega arith) in
-    verdict-goes-on _ _ _ _ (lt-leb commandLimit (c .before .before .before .before .before .before .args .command) (omega arith)) (verdict-goes-on _ _ _ _ (ap not (eq-eqb (c .before .before .before .before .before .before .args .store-len) storeSize (omega arith))) (verdict-goes-on _ _ _ _ (ap not (sym (c .before .before .before .holds .ensures .0) ∙ not-false _ (c .before .before .if3 .left))) (verdict-stops _ _ _ _ (ap not (ap (λ (p : CommandState). p .opened) same ∙ not-true _ (c .if4 .taken))))))
+    let whole = c .before .before in
+    let sized = whole .before .before in
+    rw (command-low (sized .before), store-sized sized, state-whole whole, sym (c .before .is-open .ensures) ∙ not-true _ (c .if4 .taken))
 
-used-requires : tie.Need-used-requires
-used-requires c κs = search needs
-
-held-from-requires : tie.Need-held-from-requires
-held-from-requires c κs = search needs
-
+-- what is counted in the command's words is counted in its records
 returns-5 : tie.Need-returns-5
-unfolding endSays
+unfolding endSays verdict
 returns-5 c =
-    let size : length (c .before .before .before .before .before .before .before .before .args .t1 .commands) ≡ commandLimit = simp length-map at (c .before .before .before .before .before .before .before .before .good .0 .1 .1 .0 .1 .0 .1) in
-    let same = getD-within (c .before .before .before .before .before .before .before .before .args .t1 .commands) (c .before .before .before .before .before .before .before .before .args .command) closed _ (omega arith) in
-    let records = c .before .used .ensures .0 ∙ ap (λ (p : CommandState). length (recordsIn p)) (sym same) in
-    let bytes = c .held-from .ensures ∙ ap (λ (p : CommandState). total (recordsIn p)) (sym same) in
-    verdict-goes-on _ _ _ _ (lt-leb commandLimit (c .before .before .before .before .before .before .before .before .args .command) (omega arith)) (verdict-goes-on _ _ _ _ (ap not (eq-eqb (c .before .before .before .before .before .before .before .before .args .store-len) storeSize (omega arith))) (verdict-goes-on _ _ _ _ (ap not (sym (c .before .before .before .before .before .holds .ensures .0) ∙ not-false _ (c .before .before .before .before .if3 .left))) (verdict-goes-on _ _ _ _ (ap not (ap (λ (p : CommandState). p .opened) same ∙ not-false _ (c .before .before .if4 .left))) (verdict-gives (ap₂ (λ (a b : ℕ). replied (a ∷ b ∷ [])) records bytes)))))
+    let opened = c .before .before .before in
+    let whole = opened .before .before in
+    let sized = whole .before .before in
+    let start = sized .before .before .before in
+    let own = lent-command (now (start .args .state)) (start .args .command) (start .pre) (omega arith) in
+    let records = c .before .used .ensures .0 ∙ ap (λ (p : CommandState). length (recordsIn p)) own in
+    let bytes = c .held-from .ensures ∙ ap (λ (p : CommandState). total (recordsIn p)) own in
+    rw (command-low (sized .before), store-sized sized, state-whole whole, sym (opened .before .is-open .ensures) ∙ not-false _ (opened .if4 .left))
+    (ap₂ (λ (a b : ℕ). replied (a ∷ b ∷ [])) records bytes)
 
 pub judge-spec : {M : Type 1} → statement M
 judge-spec =
@@ -67,11 +69,16 @@ judge-spec =
     (tie.spec
     returns
     returns-2
-    holds-requires
+    (λ c κs. search needs)
     returns-3
-    mul-c
-    element-copy-out-c
+    (λ c κs. search needs)
     returns-4
-    used-requires
-    held-from-requires
+    (λ c. search needs)
+    (λ c. search needs)
+    (λ c. search needs)
+    (λ c. search needs)
+    (λ c. search needs)
+    (λ c. search needs)
+    (λ c κs. search needs)
+    (λ c κs. search needs)
     returns-5)

@@ -1,64 +1,81 @@
--- The checks in their order: the first that applies is given.
+-- The checks in their order: the first that applies is given. Each test that is passed makes its check false.
+use Prim.Native.Nat.{_+_}
 use native.Mathlib.Omega.{arith}
-use mathlib.Core.Path.{_≡_, refl, ap, sym, _∙_}
-use mathlib.Core.Bool.{not}
-use lib.ListN.{length, length-map}
-use borrow.Author.Tests.{le-ltb, lt-ltb, le-leb, lt-leb, not-true, not-false}
-use Rattle.octets.proofs.Lists.{getD-within}
-use Rattle.state.specs.declared.CommandState.{CommandState}
-use Rattle.state.specs.Limits.{commandLimit, transferLimit, windowLimit}
-use Rattle.state.specs.State.{closed}
-use Rattle.state.proofs.Verdict.{verdict-stops, verdict-goes-on, verdict-gives}
-use Rattle.cache.specs.OwnWrite.{ownSays}
+use mathlib.Core.Path.{_≡_, sym, _∙_}
+use mathlib.Core.Bool.{true, false}
+use lib.Dec.{leb, ltb}
 use borrow.Author.Needs.{needs}
+use borrow.Author.Tests.{le-leb, lt-leb, le-ltb, lt-ltb, not-true, not-false}
+use denote.Ref.{now}
+use Rattle.state.specs.Limits.{commandLimit, transferLimit, windowLimit}
+use Rattle.state.specs.State.{holds}
+use Rattle.state.specs.Words.{stateOf}
+use Rattle.state.specs.Verdict.{verdict}
+use Rattle.cache.specs.OwnWrite.{ownSays}
 use Rattle.cache.proofs.own_write.judge.Statement.{statement}
 use Rattle.cache.proofs.own_write.judge.Tie as tie
 
+short : (c : tie.Else1) → ltb transferLimit (c .before .before .args .size) ≡ false
+short c = le-ltb transferLimit (c .before .before .args .size) (omega arith)
+
+command-low : (c : tie.Else2) → leb commandLimit (c .before .before .before .args .command) ≡ false
+command-low c = lt-leb commandLimit (c .before .before .before .args .command) (omega arith)
+
+window-short : (c : tie.Else3) → ltb windowLimit (c .before .before .before .before .args .window-len) ≡ false
+window-short c = le-ltb windowLimit (c .before .before .before .before .args .window-len) (omega arith)
+
+inside : (c : tie.Else4) → ltb (c .before .before .before .before .before .before .args .window-len) (c .before .before .before .before .before .before .args .address + c .before .before .before .before .before .before .args .size) ≡ false
+inside c = sym (c .before .outside .ensures) ∙ c .if4 .left
+
+state-whole : (c : tie.Else5) → holds (stateOf (now (c .before .before .before .before .before .before .before .before .args .state))) ≡ true
+state-whole c = sym (c .before .holds .ensures) ∙ not-false _ (c .if5 .left)
+
 returns : tie.Need-returns
-unfolding ownSays
-returns c = verdict-stops _ _ _ _ (lt-ltb transferLimit (c .before .args .size) (omega arith))
+unfolding ownSays verdict
+returns c = rw (lt-ltb transferLimit (c .before .before .args .size) (omega arith))
 
 returns-2 : tie.Need-returns-2
-unfolding ownSays
-returns-2 c = verdict-goes-on _ _ _ _ (le-ltb transferLimit (c .before .before .args .size) (omega arith)) (verdict-stops _ _ _ _ (le-leb commandLimit (c .before .before .args .command) (omega arith)))
+unfolding ownSays verdict
+returns-2 c = rw (short (c .before), le-leb commandLimit (c .before .before .before .args .command) (omega arith))
 
 returns-3 : tie.Need-returns-3
-unfolding ownSays
-returns-3 c = verdict-goes-on _ _ _ _ (le-ltb transferLimit (c .before .before .before .args .size) (omega arith)) (verdict-goes-on _ _ _ _ (lt-leb commandLimit (c .before .before .before .args .command) (omega arith)) (verdict-stops _ _ _ _ (lt-ltb windowLimit (c .before .before .before .args .window-len) (omega arith))))
-
-outside-requires : tie.Need-outside-requires
-outside-requires c κs = search needs
+unfolding ownSays verdict
+returns-3 c =
+    let low = c .before in
+    rw (short (low .before), command-low low, lt-ltb windowLimit (c .before .before .before .before .args .window-len) (omega arith))
 
 returns-4 : tie.Need-returns-4
-unfolding ownSays
-returns-4 c = verdict-goes-on _ _ _ _ (le-ltb transferLimit (c .before .before .before .before .before .args .size) (omega arith)) (verdict-goes-on _ _ _ _ (lt-leb commandLimit (c .before .before .before .before .before .args .command) (omega arith)) (verdict-goes-on _ _ _ _ (le-ltb windowLimit (c .before .before .before .before .before .args .window-len) (omega arith)) (verdict-stops _ _ _ _ (sym (c .before .outside .ensures) ∙ c .if4 .taken))))
-
-holds-requires : tie.Need-holds-requires
-holds-requires c κs = search needs
+unfolding ownSays verdict
+returns-4 c =
+    let window = c .before .before in
+    let low = window .before in
+    rw (short (low .before), command-low low, window-short window, sym (c .before .outside .ensures) ∙ c .if4 .taken)
 
 returns-5 : tie.Need-returns-5
-unfolding ownSays
-returns-5 c = verdict-goes-on _ _ _ _ (le-ltb transferLimit (c .before .before .before .before .before .before .before .args .size) (omega arith)) (verdict-goes-on _ _ _ _ (lt-leb commandLimit (c .before .before .before .before .before .before .before .args .command) (omega arith)) (verdict-goes-on _ _ _ _ (le-ltb windowLimit (c .before .before .before .before .before .before .before .args .window-len) (omega arith)) (verdict-goes-on _ _ _ _ (sym (c .before .before .before .outside .ensures) ∙ c .before .before .if4 .left) (verdict-stops _ _ _ _ (ap not (sym (c .before .holds .ensures .0) ∙ not-true _ (c .if5 .taken)))))))
-
-mul-c : tie.Need-mul-c
-mul-c c = search needs
-
-element-copy-out-c : tie.Need-element-copy-out-c
-element-copy-out-c c = search needs
+unfolding ownSays verdict
+returns-5 c =
+    let near = c .before .before in
+    let window = near .before .before in
+    let low = window .before in
+    rw (short (low .before), command-low low, window-short window, inside near, sym (c .before .holds .ensures) ∙ not-true _ (c .if5 .taken))
 
 returns-6 : tie.Need-returns-6
-unfolding ownSays
+unfolding ownSays verdict
 returns-6 c =
-    let size : length (c .before .before .before .before .before .before .before .before .before .args .t1 .commands) ≡ commandLimit = simp length-map at (c .before .before .before .before .before .before .before .before .before .good .0 .1 .1 .0 .1 .0 .1) in
-    let same = getD-within (c .before .before .before .before .before .before .before .before .before .args .t1 .commands) (c .before .before .before .before .before .before .before .before .before .args .command) closed _ (omega arith) in
-    verdict-goes-on _ _ _ _ (le-ltb transferLimit (c .before .before .before .before .before .before .before .before .before .args .size) (omega arith)) (verdict-goes-on _ _ _ _ (lt-leb commandLimit (c .before .before .before .before .before .before .before .before .before .args .command) (omega arith)) (verdict-goes-on _ _ _ _ (le-ltb windowLimit (c .before .before .before .before .before .before .before .before .before .args .window-len) (omega arith)) (verdict-goes-on _ _ _ _ (sym (c .before .before .before .before .before .outside .ensures) ∙ c .before .before .before .before .if4 .left) (verdict-goes-on _ _ _ _ (ap not (sym (c .before .before .before .holds .ensures .0) ∙ not-false _ (c .before .before .if5 .left))) (verdict-stops _ _ _ _ (ap not (ap (λ (p : CommandState). p .opened) same ∙ not-true _ (c .if6 .taken))))))))
+    let whole = c .before .before in
+    let near = whole .before .before in
+    let window = near .before .before in
+    let low = window .before in
+    rw (short (low .before), command-low low, window-short window, inside near, state-whole whole, sym (c .before .is-open .ensures) ∙ not-true _ (c .if6 .taken))
 
 returns-7 : tie.Need-returns-7
-unfolding ownSays
+unfolding ownSays verdict
 returns-7 c =
-    let size : length (c .before .before .before .before .before .before .before .before .before .args .t1 .commands) ≡ commandLimit = simp length-map at (c .before .before .before .before .before .before .before .before .before .good .0 .1 .1 .0 .1 .0 .1) in
-    let same = getD-within (c .before .before .before .before .before .before .before .before .before .args .t1 .commands) (c .before .before .before .before .before .before .before .before .before .args .command) closed _ (omega arith) in
-    verdict-goes-on _ _ _ _ (le-ltb transferLimit (c .before .before .before .before .before .before .before .before .before .args .size) (omega arith)) (verdict-goes-on _ _ _ _ (lt-leb commandLimit (c .before .before .before .before .before .before .before .before .before .args .command) (omega arith)) (verdict-goes-on _ _ _ _ (le-ltb windowLimit (c .before .before .before .before .before .before .before .before .before .args .window-len) (omega arith)) (verdict-goes-on _ _ _ _ (sym (c .before .before .before .before .before .outside .ensures) ∙ c .before .before .before .before .if4 .left) (verdict-goes-on _ _ _ _ (ap not (sym (c .before .before .before .holds .ensures .0) ∙ not-false _ (c .before .before .if5 .left))) (verdict-goes-on _ _ _ _ (ap not (ap (λ (p : CommandState). p .opened) same ∙ not-false _ (c .if6 .left))) (verdict-gives refl))))))
+    let whole = c .before .before in
+    let near = whole .before .before in
+    let window = near .before .before in
+    let low = window .before in
+    rw (short (low .before), command-low low, window-short window, inside near, state-whole whole, sym (c .before .is-open .ensures) ∙ not-false _ (c .if6 .left))
 
 pub judge-spec : {M : Type 1} → statement M
 judge-spec =
@@ -67,11 +84,10 @@ judge-spec =
     returns
     returns-2
     returns-3
-    outside-requires
+    (λ c κs. search needs)
     returns-4
-    holds-requires
+    (λ c κs. search needs)
     returns-5
-    mul-c
-    element-copy-out-c
+    (λ c κs. search needs)
     returns-6
     returns-7)

@@ -8,6 +8,7 @@ use lib.Seq.{take-all}
 use denote.Ref.{now}
 use borrow.Author.Needs.{needs}
 use Rattle.octets.specs.Lists.{overwrite}
+use Rattle.state.specs.Words.{stateOf}
 use Rattle.state.specs.Verdict.{Reply, accepted}
 use Rattle.state.proofs.Verdict.{says-of}
 use Rattle.cache.specs.HostWrite.{writeReply}
@@ -27,11 +28,11 @@ enum-told-2 c = search needs
 
 -- what is said of the arguments
 abbrev said : tie.Start → Reply
-said t = ownSays (t .args .state) (length (now (t .args .window))) (t .args .command) (t .args .address) (length (now (t .args .bytes)))
+said t = ownSays (stateOf (now (t .args .state))) (length (now (t .args .window))) (t .args .command) (t .args .address) (length (now (t .args .bytes)))
 
 -- an answer that is no refusal: every check was passed
 abbrev start : tie.After-enum-told → tie.Start
-start e = e .before .before .before .before .before
+start e = e .before .before .before .before .before .before
 
 module _ (e : tie.After-enum-told) where
   taken : accepted (said (start e)) ≡ true
@@ -41,7 +42,7 @@ module _ (e : tie.After-enum-told) where
 returns : tie.Need-returns
 unfolding accepted ownWindow
 returns c =
-    let t = c .before .before .before .before .before in
+    let t = c .before .before .before .before .before .before in
     let says = c .before .before .judge .ensures in
     let no : accepted (said t) ≡ false = ap accepted (says-of writeReply says (c .enum-told2 .given .1)) in
     (says, rw no)
@@ -59,7 +60,7 @@ returns-2 c =
     let t = start e in
     let window = now (t .args .window) in
     let bytes = now (t .args .bytes) in
-    let all-of-it = take-all (length window - t .args .address) bytes (omega (arith, own-inside (t .args .state) (length (now (t .args .window))) (t .args .command) (t .args .address) (length (now (t .args .bytes))) (taken e))) in (
+    let all-of-it = take-all (length window - t .args .address) bytes (omega (arith, own-inside (stateOf (now (t .args .state))) (length (now (t .args .window))) (t .args .command) (t .args .address) (length (now (t .args .bytes))) (taken e))) in (
       e .before .before .judge .ensures,
       c .before .before .copy-at .ensures ∙ ap (overwrite window (t .args .address)) all-of-it ∙ rw (taken e),
     )

@@ -1,7 +1,7 @@
 -- The loop's invariant: the frames before `at` are carried out and their log is put. The measure is the bytes left.
 use Prim.Native.Nat.{ℕ, _+_, _-_, _≤_, _<_, _^_}
 use native.Mathlib.Omega.{arith}
-use mathlib.Core.Path.{_≡_, refl, ap, subst, _∙_}
+use mathlib.Core.Path.{_≡_, refl, ap, _∙_}
 use mathlib.Core.Logic.{_≢_}
 use mathlib.Core.List.{List}
 use mathlib.Core.Bool.{Bool, true, false, cond}
@@ -9,186 +9,117 @@ use lib.ListN.{length, take, drop, length-drop}
 use lib.Seq.{take-all}
 use denote.Ref.{now}
 use borrow.Author.Needs.{needs}
-use Rattle.state.specs.declared.CacheState.{CacheState}
-use Rattle.journal.specs.Step.{machine}
-use Rattle.journal.specs.Frame.{Device, isReadable}
+use Rattle.journal.specs.Step.{Device, deviceOf}
+use Rattle.journal.specs.Frame.{isReadable}
 use Rattle.journal.specs.Run.{Logs}
-use Rattle.journal.proofs.Running.{Running, running-start, running-turn, taken-read, taken-unread, ended-log, ended-leaves, ended-carried, ended-refused, ended-early, all-log, all-leaves, all-carried, all-refused, all-early}
+use Rattle.journal.proofs.Running.{Running, running-start, running-turn, taken-read, taken-unread, replays-unreadable, replays-all}
 use Rattle.journal.proofs.run.replay.Statement.{statement}
 use Rattle.journal.proofs.run.replay.Tie as tie
 
-abbrev device : CacheState → (store window dest : List ℕ) → Device
-device s store window dest = record { machine = machine s store; window = window; dest = dest }
-
 abbrev Inv-loop : tie.InvT-loop
-Inv-loop input store₀ window₀ destination₀ output₀ next₀ at₀ number₀ written₀ carried₀ store window destination output next at number written carried =
-    (Running (device next₀ store₀ window₀ destination₀) input output₀ at number written carried (device next store window destination) output)
+Inv-loop input state₀ store₀ window₀ destination₀ output₀ at₀ number₀ written₀ carried₀ state store window destination output at number written carried =
+    (Running (deviceOf state₀ store₀ window₀ destination₀) input output₀ at number written carried (deviceOf state store window destination) output)
     × (length store ≡ length store₀) × (length window ≡ length window₀) × (length destination ≡ length destination₀) × (length output ≡ length output₀)
 
 abbrev μ-loop : tie.MeasureT-loop
-μ-loop input store₀ window₀ destination₀ output₀ next₀ at₀ number₀ written₀ carried₀ store window destination output next at number written carried = length input - at
+μ-loop input state₀ store₀ window₀ destination₀ output₀ at₀ number₀ written₀ carried₀ state store window destination output at number written carried =
+    length input - at
+
+-- what is lent
+abbrev device : tie.Start Inv-loop μ-loop → Device
+device s = deviceOf (now (s .args .state)) (now (s .args .store)) (now (s .args .window)) (now (s .args .destination))
 
 loop-holds : tie.Need-loop-holds Inv-loop μ-loop
 loop-holds c =
-    let a = c .before .before .before .before .before .args in
-    (running-start (device (a .state) (now (a .store)) (now (a .window)) (now (a .destination))) (now (a .input)) (now (a .output)), refl, refl, refl, refl)
+    let s = c .before .before .before .before .before in
+    (running-start (device s) (now (s .args .input)) (now (s .args .output)), refl, refl, refl, refl)
 
-add-log-frame : tie.Need-add-log-frame Inv-loop μ-loop
-add-log-frame c = omega arith
+-- where the loop's test is made
+module _ (l : tie.At-loop Inv-loop μ-loop) where
+  abbrev start : tie.Start Inv-loop μ-loop
+  start = l .before .before .before .before .before .before
 
-sub-log-frame : tie.Need-sub-log-frame Inv-loop μ-loop
-sub-log-frame c = omega arith
+  abbrev input : List ℕ
+  input = now (start .args .input)
 
-part-log-frame-start : tie.Need-part-log-frame-start Inv-loop μ-loop
-part-log-frame-start c = omega arith
+  abbrev d : Device
+  d = deviceOf (l .loop .state) (l .loop .store) (l .loop .window) (l .loop .destination)
 
-part-log-frame-end : tie.Need-part-log-frame-end Inv-loop μ-loop
-part-log-frame-end c = omega arith
+  abbrev frame : List ℕ
+  frame = drop (l .loop .at) input
 
-log-frame-requires : tie.Need-log-frame-requires Inv-loop μ-loop
-log-frame-requires c κs = search needs
+  running :
+      Running (device start) input (now (start .args .output)) (l .loop .at) (l .loop .number) (l .loop .written) (l .loop .carried) d (l .loop .output)
+  running = l .loop .inv .0
 
-sub-t29 : tie.Need-sub-t29 Inv-loop μ-loop
-sub-t29 c = omega arith
+  bound : length input < 2 ^ 64
+  bound = start .good .0 .0
 
-same-length : tie.Need-same-length Inv-loop μ-loop
-same-length c = omega arith
-
-same-length-2 : tie.Need-same-length-2 Inv-loop μ-loop
-same-length-2 c = omega arith
-
-same-length-3 : tie.Need-same-length-3 Inv-loop μ-loop
-same-length-3 c = omega arith
-
-same-length-4 : tie.Need-same-length-4 Inv-loop μ-loop
-same-length-4 c = omega arith
-
-rest-most : (l : List ℕ) (at : ℕ) → length (drop at l) ≤ length l - at
-rest-most l at = omega (arith, length-drop at l)
+  -- all that is left is lent
+  whole : take (length input - l .loop .at) frame ≡ frame
+  whole = take-all (length input - l .loop .at) frame (omega (arith, length-drop (l .loop .at) input))
 
 -- a frame logged
 module _ (g : tie.After-log-frame Inv-loop μ-loop) where
-  abbrev a : tie.At-loop Inv-loop μ-loop
-  a = g .before .before .before .before .before .before .before
+  abbrev l : tie.At-loop Inv-loop μ-loop
+  l = g .before .before .before .before .before .before .before .before
 
-  abbrev d₀ : Device
-  d₀ = device (a .before .before .before .before .before .before .args .state) (now (a .before .before .before .before .before .before .args .store)) (now (a .before .before .before .before .before .before .args .window)) (now (a .before .before .before .before .before .before .args .destination))
+  inside : l .loop .at < length (input l)
+  inside = g .before .before .before .before .before .before .before .loop-test .taken
 
-  abbrev input : List ℕ
-  input = now (a .before .before .before .before .before .before .args .input)
-
-  abbrev d : Device
-  d = device (a .loop .next) (a .loop .store) (a .loop .window) (a .loop .destination)
-
-  abbrev after : Device
-  after = device (g .log-frame .result .state) (g .log-frame .last .1 .1 .1 .0) (g .log-frame .last .1 .1 .1 .1 .0) (g .log-frame .last .1 .1 .1 .1 .1 .0)
-
-  logged : Logs d (a .loop .number + 1) (drop (a .loop .at) input) (a .loop .output) (a .loop .written) (g .log-frame .result) (after .machine .store) (after .window) (after .dest) (g .log-frame .last .1 .1 .1 .1 .1 .1 .0)
-  logged =
-      let whole : take (length input - a .loop .at) (drop (a .loop .at) input) ≡ drop (a .loop .at) input = take-all (length input - a .loop .at) (drop (a .loop .at) input) (rest-most input (a .loop .at)) in
-      subst (λ (f : List ℕ). Logs d (a .loop .number + 1) f (a .loop .output) (a .loop .written) (g .log-frame .result) (after .machine .store) (after .window) (after .dest) (g .log-frame .last .1 .1 .1 .1 .1 .1 .0)) whole
-      (g .log-frame .ensures)
-
-  running : Running d₀ input (now (a .before .before .before .before .before .before .args .output)) (a .loop .at) (a .loop .number) (a .loop .written) (a .loop .carried) d (a .loop .output)
-  running = a .loop .inv .0
-
-  inside : a .loop .at < length input
-  inside = g .before .before .before .before .before .before .loop-test .taken
-
-  bound : length input < 2 ^ 64
-  bound = a .before .before .before .before .before .before .good .0 .0
+  logged :
+      let after = g .log-frame .last .1 .1 in
+      Logs (d l) (l .loop .number + 1) (frame l) (l .loop .output) (l .loop .written) (g .log-frame .result)
+      (after .0) (after .1 .0) (after .1 .1 .0) (after .1 .1 .1 .0) (after .1 .1 .1 .1 .0)
+  logged = rw (whole l) at (g .log-frame .ensures)
 
   -- a frame that took up bytes was read, and one that took up none was not
-  was-read : g .log-frame .result .taken ≢ 0 → isReadable (drop (a .loop .at) input) ≡ true
-  was-read some = go (isReadable (drop (a .loop .at) input)) refl
+  was-read : g .log-frame .result .taken ≢ 0 → isReadable (frame l) ≡ true
+  was-read some = go (isReadable (frame l)) refl
     where
-      go : (b : Bool) → isReadable (drop (a .loop .at) input) ≡ b → b ≡ true
+      go : (b : Bool) → isReadable (frame l) ≡ b → b ≡ true
       go true e = refl
-      go false e = absurd (some (logged .taken ∙ taken-unread (drop (a .loop .at) input) e))
+      go false e = absurd (some (logged .taken ∙ taken-unread (frame l) e))
 
-  was-unread : g .log-frame .result .taken ≡ 0 → isReadable (drop (a .loop .at) input) ≡ false
-  was-unread none = go (isReadable (drop (a .loop .at) input)) refl
+  was-unread : g .log-frame .result .taken ≡ 0 → isReadable (frame l) ≡ false
+  was-unread none = go (isReadable (frame l)) refl
     where
-      go : (b : Bool) → isReadable (drop (a .loop .at) input) ≡ b → b ≡ false
-      go true e = absurd (omega (arith, taken-read (drop (a .loop .at) input) e .some, logged .taken, none))
+      go : (b : Bool) → isReadable (frame l) ≡ b → b ≡ false
+      go true e = absurd (omega (arith, taken-read (frame l) e .some, logged .taken, none))
       go false e = refl
 
 returns : tie.Need-returns Inv-loop μ-loop
 returns c =
-    let g = c .before .before .before .before .before .before .before .before .before .before in
+    let g = c .before .before .before .before .before .before .before .before .before in
     let L = logged g in
-    let e = was-unread g (omega arith) in
-    let R = running g in
-    record {
-      log = ended-log (d₀ g) (input g) _ _ _ _ _ (d g) _ R (inside g) _ _ (L .line) e;
-      leaves = L .leaves ∙ ended-leaves (d₀ g) (input g) _ _ _ _ _ (d g) _ R (inside g) _ _ (L .line) e;
-      carried = ended-carried (d₀ g) (input g) _ _ _ _ _ (d g) _ R (inside g) _ _ (L .line) e;
-      refused = ended-refused (d₀ g) (input g) _ _ _ _ _ (d g) _ R (inside g) _ _ (L .line) e;
-      early = ended-early (d₀ g) (input g) _ _ _ _ _ (d g) _ R (inside g) _ _ (L .line) e;
-    }
-
-one-if-requires : tie.Need-one-if-requires Inv-loop μ-loop
-one-if-requires c κs = search needs
-
-add-carried : tie.Need-add-carried Inv-loop μ-loop
-add-carried c = omega arith
-
-add-number : tie.Need-add-number Inv-loop μ-loop
-add-number c = omega arith
+    replays-unreadable (device (start (l g))) (input (l g)) _ _ _ _ _ (d (l g)) _ (running (l g)) (inside g) _ _ (L .line) (was-unread g (omega arith))
+    (L .leaves)
 
 add-at : tie.Need-add-at Inv-loop μ-loop
 add-at c =
-    let g = c .before .before .before .before .before .before .before .before .before .before .before in
+    let g = c .before .before .before .before .before .before .before .before .before .before in
     let read = was-read g (c .before .if1 .left) in
-    let most : a g .loop .at + g .log-frame .result .taken ≤ length (input g) = omega (arith, logged g .taken, taken-read (drop (a g .loop .at) (input g)) read .there, length-drop (a g .loop .at) (input g), inside g) in
-    omega (arith, most, bound g)
-
-loop-less : tie.Need-loop-less Inv-loop μ-loop
-loop-less c = omega arith
+    let most : l g .loop .at + g .log-frame .result .taken ≤ length (input (l g))
+    = omega (arith, logged g .taken, taken-read (frame (l g)) read .there, length-drop (l g .loop .at) (input (l g)), inside g) in
+    omega (arith, most, bound (l g))
 
 loop-again : tie.Need-loop-again Inv-loop μ-loop
 loop-again c =
-    let g = c .before .before .before .before .before .before .before .before .before .before .before in
+    let g = c .before .before .before .before .before .before .before .before .before .before in
     let L = logged g in
     let read = was-read g (c .before .if1 .left) in
-    let count = ap (λ (k : ℕ). a g .loop .carried + k) (c .one-if .ensures .0 ∙ ap (λ (b : Bool). cond b 1 0) (L .accepted)) in (
-      running-turn (d₀ g) (input g) _ _ _ _ _ (d g) _ (running g) (inside g) _ _ (L .line) read _ _ (after g) (L .taken) count (L .leaves),
+    let count = ap (λ (k : ℕ). l g .loop .carried + k) (c .one-if .ensures .0 ∙ ap (λ (b : Bool). cond b 1 0) (L .accepted)) in (
+      running-turn (device (start (l g))) (input (l g)) _ _ _ _ _ (d (l g)) _ (running (l g)) (inside g) _ _ (L .line) read (L .taken) count (L .leaves),
       omega arith,
       omega arith,
       omega arith,
       omega arith,
     )
 
-sub-t30 : tie.Need-sub-t30 Inv-loop μ-loop
-sub-t30 c = omega arith
-
-same-length-5 : tie.Need-same-length-5 Inv-loop μ-loop
-same-length-5 c = omega arith
-
-same-length-6 : tie.Need-same-length-6 Inv-loop μ-loop
-same-length-6 c = omega arith
-
-same-length-7 : tie.Need-same-length-7 Inv-loop μ-loop
-same-length-7 c = omega arith
-
-same-length-8 : tie.Need-same-length-8 Inv-loop μ-loop
-same-length-8 c = omega arith
-
 returns-2 : tie.Need-returns-2 Inv-loop μ-loop
 returns-2 c =
     let l = c .before in
-    let e = l .before .before .before .before .before .before in
-    let d₀ = device (e .args .state) (now (e .args .store)) (now (e .args .window)) (now (e .args .destination)) in
-    let d = device (l .loop .next) (l .loop .store) (l .loop .window) (l .loop .destination) in
-    let R = l .loop .inv .0 in
-    let past : length (now (e .args .input)) ≤ l .loop .at = c .loop-test .left in
-    record {
-      log = all-log d₀ (now (e .args .input)) _ _ _ _ _ d _ R past;
-      leaves = all-leaves d₀ (now (e .args .input)) _ _ _ _ _ d _ R past;
-      carried = all-carried d₀ (now (e .args .input)) _ _ _ _ _ d _ R past;
-      refused = all-refused d₀ (now (e .args .input)) _ _ _ _ _ d _ R past;
-      early = all-early d₀ (now (e .args .input)) _ _ _ _ _ d _ R past;
-    }
+    replays-all (device (start l)) (input l) _ _ _ _ _ (d l) _ (running l) (c .loop-test .left) refl
 
 pub replay-spec : {M : Type 1} → statement M
 replay-spec =
@@ -197,26 +128,26 @@ replay-spec =
     Inv-loop
     μ-loop
     loop-holds
-    add-log-frame
-    sub-log-frame
-    part-log-frame-start
-    part-log-frame-end
-    log-frame-requires
-    sub-t29
-    same-length
-    same-length-2
-    same-length-3
-    same-length-4
+    (λ c. omega arith)
+    (λ c. omega arith)
+    (λ c. omega arith)
+    (λ c. omega arith)
+    (λ c κs. search needs)
+    (λ c. omega arith)
+    (λ c. omega arith)
+    (λ c. omega arith)
+    (λ c. omega arith)
+    (λ c. omega arith)
     returns
-    one-if-requires
-    add-carried
-    add-number
+    (λ c κs. search needs)
+    (λ c. omega arith)
+    (λ c. omega arith)
     add-at
-    loop-less
+    (λ c. omega arith)
     loop-again
-    sub-t30
-    same-length-5
-    same-length-6
-    same-length-7
-    same-length-8
+    (λ c. omega arith)
+    (λ c. omega arith)
+    (λ c. omega arith)
+    (λ c. omega arith)
+    (λ c. omega arith)
     returns-2)

@@ -5,17 +5,8 @@ use Rattle.cache.specs.Begin.{beginReply}
 use Rattle.journal.proofs.step.begun.Statement.{statement}
 use Rattle.journal.proofs.step.begun.Tie as tie
 
-enum-told : tie.Need-enum-told
-enum-told c = search needs
-
-enum-known-answer : tie.Need-enum-known-answer
-enum-known-answer c = search needs
-
-returns : tie.Need-returns
-returns c = search needs
-
 returns-2 : tie.Need-returns-2
 returns-2 c = sym (ap beginReply (c .before .answer .given .1))
 
 pub begun-spec : {M : Type 1} → statement M
-begun-spec = tie.close (tie.spec enum-told enum-known-answer returns returns-2)
+begun-spec = tie.close (tie.spec (λ c. search needs) (λ c. search needs) (λ c. search needs) returns-2)

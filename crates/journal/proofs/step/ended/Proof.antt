@@ -5,12 +5,6 @@ use Rattle.cache.specs.End.{endReply}
 use Rattle.journal.proofs.step.ended.Statement.{statement}
 use Rattle.journal.proofs.step.ended.Tie as tie
 
-enum-known-answer : tie.Need-enum-known-answer
-enum-known-answer c = search needs
-
-enum-known-answer-2 : tie.Need-enum-known-answer-2
-enum-known-answer-2 c = search needs
-
 returns : tie.Need-returns
 returns c = sym (ap endReply (c .before .answer .given .1))
 
@@ -18,4 +12,4 @@ returns-2 : tie.Need-returns-2
 returns-2 c = sym (ap endReply (c .before .answer2 .given .1))
 
 pub ended-spec : {M : Type 1} → statement M
-ended-spec = tie.close (tie.spec enum-known-answer enum-known-answer-2 returns returns-2)
+ended-spec = tie.close (tie.spec (λ c. search needs) (λ c. search needs) returns returns-2)

@@ -1,125 +1,105 @@
 -- Each kind of step is made as its call.
-use mathlib.Core.Path.{sym, subst, _∙_}
+use native.Mathlib.Omega.{arith}
+use mathlib.Core.Path.{refl, ap, _∙_}
+use mathlib.Core.Bool.{cond}
 use denote.Ref.{now}
-use Rattle.frames.specs.declared.Step.{Step}
-use Rattle.journal.specs.Step.{machine, callOf, Makes}
-use Rattle.journal.proofs.Steps.{makes-begin, makes-end, makes-host-write, makes-own-write}
 use borrow.Author.Needs.{needs}
+use Rattle.state.specs.Verdict.{Reply, accepted}
+use Rattle.cache.specs.Runs.{begin, end, hostWrite, ownWrite}
+use Rattle.journal.specs.Step.{Device, deviceOf}
+use Rattle.journal.proofs.Steps.{equal-devices, makes-undelivered, fetch-delivers, fetch-within}
 use Rattle.journal.proofs.step.make.Statement.{statement}
 use Rattle.journal.proofs.step.make.Tie as tie
 
-enum-known-step : tie.Need-enum-known-step
-enum-known-step c = search needs
-
-begin-requires : tie.Need-begin-requires
-begin-requires c κs = search needs
-
-enum-known-step-2 : tie.Need-enum-known-step-2
-enum-known-step-2 c = search needs
-
-fetch-requires : tie.Need-fetch-requires
-fetch-requires c κs = search needs
-
-enum-known-step-3 : tie.Need-enum-known-step-3
-enum-known-step-3 c = search needs
-
-end-requires : tie.Need-end-requires
-end-requires c κs = search needs
-
-enum-known-step-4 : tie.Need-enum-known-step-4
-enum-known-step-4 c = search needs
-
-host-write-requires : tie.Need-host-write-requires
-host-write-requires c κs = search needs
-
-wrote-requires : tie.Need-wrote-requires
-wrote-requires c κs = search needs
-
-enum-known-step-5 : tie.Need-enum-known-step-5
-enum-known-step-5 c = search needs
-
-own-write-requires : tie.Need-own-write-requires
-own-write-requires c κs = search needs
-
-wrote-requires-2 : tie.Need-wrote-requires-2
-wrote-requires-2 c κs = search needs
-
-same-length : tie.Need-same-length
-same-length c = search needs
+-- what is lent
+abbrev device : tie.Start → Device
+device s = deviceOf (now (s .args .state)) (now (s .args .store)) (now (s .args .window)) (now (s .args .destination))
 
 returns : tie.Need-returns
 returns c =
-    let a = c .before .before .before .before .before .before .before .before .before .before .before .args in
-    subst (λ (step : Step). Makes (machine (a .state) (now (a .store))) (now (a .window)) (now (a .destination)) (callOf step (now (a .bytes)) (now (a .destination)) (now (a .window))) (c .before .before .begin .result) (c .before .before .begin .last .1 .0) (now (a .window)) (now (a .destination))) (sym (c .before .before .before .before .before .step .given .1))
-    (makes-begin (machine (a .state) (now (a .store))) (now (a .window)) (now (a .destination)) _ _ _ (c .before .before .begin .ensures))
+    let step = c .before .before .before .before .before .before .before in
+    let d = device (step .before .before .before .before .before .before) in
+    let call = c .before .before .before .begin .ensures in
+    rw (step .step .given .1)
+    (makes-undelivered d (begin _) refl (c .begun .ensures ∙ call .answer) (equal-devices (call .state) (call .bytes) refl refl))
 
-same-length-2 : tie.Need-same-length-2
-same-length-2 c = search needs
+-- a fetch that was made
+module _ (c : tie.After-delivered) where
+  abbrev made : tie.After-fetch
+  made = c .before .before .before .before .before .before
 
-same-length-3 : tie.Need-same-length-3
-same-length-3 c = search needs
+  abbrev step : tie.After-step2
+  step = made .before .before .before .before .before .before
 
-same-length-4 : tie.Need-same-length-4
-same-length-4 c = search needs
+  abbrev d : Device
+  d = device (step .before .before .before .before .before .before)
 
 returns-2 : tie.Need-returns-2
 returns-2 c =
-    let a = c .before .before .before .before .before .before .before .before .before .before .before .before .before .before .before .args in
-    subst (λ (step : Step). Makes (machine (a .state) (now (a .store))) (now (a .window)) (now (a .destination)) (callOf step (now (a .bytes)) (now (a .destination)) (now (a .window))) (c .before .before .before .before .fetch .result) (c .before .before .before .before .fetch .last .1 .0) (now (a .window)) (c .before .before .before .before .fetch .last .1 .1 .1 .0)) (sym (c .before .before .before .before .before .before .before .before .before .step2 .given .1))
-    (c .before .before .before .before .fetch .ensures)
-
-same-length-5 : tie.Need-same-length-5
-same-length-5 c = search needs
+    let call = made c .fetch .ensures in
+    let dest′ = made c .fetch .last .1 .1 .1 .0 in
+    let size = step c .step2 .given .0 .1 .1 .0 in
+    let count = c .delivered .ensures ∙ ap (λ (q : Reply). cond (accepted q) size 0) (call .answer) in
+    rw (step c .step2 .given .1) record {
+      answer = c .before .fetched .ensures ∙ call .answer;
+      leaves = equal-devices (call .state) (call .bytes) refl (call .delivered);
+      within = fetch-within (d c .machine) _ _ size (d c .dest) (d c .window) dest′ _ count (omega arith);
+      delivered = fetch-delivers (d c .machine) _ _ size (d c .dest) (d c .window) dest′ _ count (call .delivered);
+    }
 
 returns-3 : tie.Need-returns-3
 returns-3 c =
-    let a = c .before .before .before .before .before .before .before .before .before .before .before .args in
-    subst (λ (step : Step). Makes (machine (a .state) (now (a .store))) (now (a .window)) (now (a .destination)) (callOf step (now (a .bytes)) (now (a .destination)) (now (a .window))) (c .before .before .end .result) (c .before .before .end .last .1 .0) (now (a .window)) (now (a .destination))) (sym (c .before .before .before .before .before .step3 .given .1))
-    (makes-end (machine (a .state) (now (a .store))) (now (a .window)) (now (a .destination)) _ _ _ (c .before .before .end .ensures))
-
-same-length-6 : tie.Need-same-length-6
-same-length-6 c = search needs
+    let step = c .before .before .before .before .before .before .before in
+    let d = device (step .before .before .before .before .before .before) in
+    let call = c .before .before .before .end .ensures in
+    rw (step .step3 .given .1)
+    (makes-undelivered d (end _) refl (c .ended .ensures ∙ call .answer) (equal-devices (call .state) (call .bytes) refl refl))
 
 returns-4 : tie.Need-returns-4
 returns-4 c =
-    let a = c .before .before .before .before .before .before .before .before .before .before .before .before .args in
-    subst (λ (step : Step). Makes (machine (a .state) (now (a .store))) (now (a .window)) (now (a .destination)) (callOf step (now (a .bytes)) (now (a .destination)) (now (a .window))) (c .wrote .result) (now (a .store)) (c .before .before .before .host-write .last .0) (now (a .destination))) (sym (c .before .before .before .before .before .before .step4 .given .1))
-    (makes-host-write (machine (a .state) (now (a .store))) (now (a .window)) (now (a .destination)) _ _ (c .wrote .ensures .1) (c .wrote .ensures .2) _ _ (c .wrote .ensures .0 ∙ c .before .before .before .host-write .ensures .0) (c .before .before .before .host-write .ensures .1))
-
-same-length-7 : tie.Need-same-length-7
-same-length-7 c = search needs
+    let step = c .before .before .before .before .before .before in
+    let d = device (step .before .before .before .before .before .before) in
+    let call = c .before .before .before .host-write .ensures in
+    rw (step .step4 .given .1)
+    (makes-undelivered d (hostWrite _ _ _) refl (c .written .ensures ∙ call .0) (equal-devices refl refl (call .1) refl))
 
 returns-5 : tie.Need-returns-5
 returns-5 c =
-    let a = c .before .before .before .before .before .before .before .before .before .before .before .before .args in
-    subst (λ (step : Step). Makes (machine (a .state) (now (a .store))) (now (a .window)) (now (a .destination)) (callOf step (now (a .bytes)) (now (a .destination)) (now (a .window))) (c .wrote2 .result) (now (a .store)) (c .before .before .before .own-write .last .1 .0) (now (a .destination))) (sym (c .before .before .before .before .before .before .step5 .given .1))
-    (makes-own-write (machine (a .state) (now (a .store))) (now (a .window)) (now (a .destination)) _ _ (c .wrote2 .ensures .1) (c .wrote2 .ensures .2) _ _ _ (c .wrote2 .ensures .0 ∙ c .before .before .before .own-write .ensures .0) (c .before .before .before .own-write .ensures .1))
+    let step = c .before .before .before .before .before .before .before in
+    let d = device (step .before .before .before .before .before .before) in
+    let call = c .before .before .before .own-write .ensures in
+    rw (step .step5 .given .1)
+    (makes-undelivered d (ownWrite _ _ _ _) refl (c .written2 .ensures ∙ call .0) (equal-devices refl refl (call .1) refl))
 
 pub make-spec : {M : Type 1} → statement M
 make-spec =
     tie.close
     (tie.spec
-    enum-known-step
-    begin-requires
-    enum-known-step-2
-    fetch-requires
-    enum-known-step-3
-    end-requires
-    enum-known-step-4
-    host-write-requires
-    wrote-requires
-    enum-known-step-5
-    own-write-requires
-    wrote-requires-2
-    same-length
+    (λ c. search needs)
+    (λ c κs. search needs)
+    (λ c κs. search needs)
+    (λ c. search needs)
+    (λ c κs. search needs)
+    (λ c κs. search needs)
+    (λ c κs. search needs)
+    (λ c. search needs)
+    (λ c κs. search needs)
+    (λ c κs. search needs)
+    (λ c. search needs)
+    (λ c κs. search needs)
+    (λ c κs. search needs)
+    (λ c. search needs)
+    (λ c κs. search needs)
+    (λ c κs. search needs)
+    (λ c. search needs)
     returns
-    same-length-2
-    same-length-3
-    same-length-4
+    (λ c. search needs)
+    (λ c. search needs)
+    (λ c. search needs)
     returns-2
-    same-length-5
+    (λ c. search needs)
     returns-3
-    same-length-6
+    (λ c. search needs)
     returns-4
-    same-length-7
+    (λ c. search needs)
     returns-5)

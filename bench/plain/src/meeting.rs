@@ -1,0 +1,90 @@
+//! How a span lies among records, and the bytes of the record that joins them.
+
+use crate::state::{end, held, length, start, Record};
+
+/// How many records end at an address or below it, and the bytes that they
+/// hold. One walk for both is faster than a binary search and a sum.
+pub fn passed(records: &[Record], address: usize) -> (usize, usize) {
+    let (mut count, mut bytes) = (0, 0);
+    for record in records {
+        if end(*record) > address {
+            break;
+        }
+        count += 1;
+        bytes += length(*record);
+    }
+    (count, bytes)
+}
+
+/// A span meets the records from `first` up to `last`, and reaches with them
+/// from `low` up to `high`; they hold so many bytes.
+pub struct Meeting {
+    pub first: usize,
+    pub last: usize,
+    pub low: usize,
+    pub high: usize,
+    held: usize,
+}
+
+impl Meeting {
+    /// The first record that ends behind the address is known.
+    pub fn of(records: &[Record], first: usize, address: usize, stop: usize) -> Meeting {
+        let behind = &records[first..];
+        let count = behind.iter().take_while(|record| start(**record) < stop);
+        let met = &behind[..count.count()];
+        let (low, high) = match met {
+            [] => (address, stop),
+            [one, ..] => (address.min(start(*one)), stop.max(end(met[met.len() - 1]))),
+        };
+        Meeting {
+            first,
+            last: first + met.len(),
+            low,
+            high,
+            held: held(met),
+        }
+    }
+
+    pub fn length(&self) -> usize {
+        self.high - self.low
+    }
+
+    pub fn fresh(&self) -> usize {
+        self.length() - self.held
+    }
+
+    /// The joined record.
+    pub fn record(&self) -> Record {
+        [self.low as u16, self.length() as u16]
+    }
+
+    /// Moves what stands behind up, and puts the bytes of the joined record
+    /// side by side, from the last record met down. The part starts where the
+    /// joined record does.
+    pub fn fill(&self, part: &mut [u8], met: &[Record], behind: usize, window: &[u8]) {
+        let mut old = self.held;
+        let mut new = self.length();
+        part.copy_within(old..old + behind, new);
+        let mut top = self.high;
+        for record in met.iter().rev() {
+            let (from, to) = (start(*record), end(*record));
+            new -= top - to;
+            read(&mut part[new..], window, to, top);
+            old -= length(*record);
+            new -= length(*record);
+            if old < new {
+                part.copy_within(old..old + length(*record), new);
+            }
+            top = from;
+        }
+        read(part, window, self.low, top);
+    }
+}
+
+/// Copies bytes of the window, if there are any to copy: a record may end
+/// behind a window that has become shorter.
+fn read(part: &mut [u8], window: &[u8], from: usize, to: usize) {
+    if from < to {
+        part[..to - from].copy_from_slice(&window[from..to]);
+    }
+}

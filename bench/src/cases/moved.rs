@@ -1,0 +1,50 @@
+//! How many bytes of payload a case moves: a fresh byte goes into the store and
+//! to the destination, a replayed one to the destination, a written one into
+//! the window.
+
+use crate::answer::Answer;
+use crate::call::{make, Call, Last};
+use crate::cases::{Case, Subject};
+use crate::memory::{Desk, Memory};
+use crate::programs::{Cache, Ordinary};
+use plain::journal::replay;
+
+/// The bytes that the calls or frames of interest of a case move.
+pub fn by_case(case: &Case) -> usize {
+    match &case.subject {
+        Subject::Journals { whole, base, .. } => by_journal(whole) - by_journal(base),
+        Subject::Calls { before, unit } => by_call(before, *unit) * case.units,
+    }
+}
+
+fn by_call(before: &[Call], unit: Call) -> usize {
+    let mut cache = Ordinary::<true>::new();
+    let mut memory = Memory::new();
+    let mut last = Last(Answer::Unknown);
+    for call in before.iter().chain([&unit]) {
+        make(&mut cache, &mut memory, *call, &mut last);
+    }
+    match (unit, last.0) {
+        (Call::Fetch { .. }, Answer::Numbers(fresh, replayed)) => 2 * fresh + replayed,
+        (Call::HostWrite { .. } | Call::OwnWrite { .. }, Answer::Numbers(bytes, _)) => bytes,
+        _ => 0,
+    }
+}
+
+fn by_journal(journal: &[u8]) -> usize {
+    let mut desk = Desk::new(true);
+    let [store, window, destination, output] = desk.lend();
+    let run = replay::<true>(journal, store, window, destination, output);
+    let log = String::from_utf8_lossy(desk.log(run.written));
+    log.lines().map(by_line).sum()
+}
+
+fn by_line(line: &str) -> usize {
+    let fields: Vec<&str> = line.split(' ').collect();
+    let number = |place: usize| -> usize { fields[place].parse().unwrap_or(0) };
+    match (fields[1], fields[2]) {
+        ("F", "ok") => 2 * number(3) + number(4),
+        ("H" | "W", "ok") => number(3),
+        _ => 0,
+    }
+}

@@ -1,0 +1,77 @@
+//! What people would write instead, as caches. They know no refusals, and
+//! a write is no more than a copy.
+
+use peers::bitmap::Bitmap;
+use peers::ranges::Ranges;
+
+use super::Cache;
+use crate::answer::Answer;
+use crate::memory::{Memory, WINDOW};
+
+impl Cache for Ranges {
+    fn new() -> Ranges {
+        Ranges::default()
+    }
+
+    fn reset(&mut self) {
+        (0..8).for_each(|command| Ranges::begin(self, command));
+    }
+
+    fn begin(&mut self, command: usize) -> impl Into<Answer> {
+        Ranges::begin(self, command)
+    }
+
+    fn fetch(
+        &mut self,
+        memory: &mut Memory,
+        command: usize,
+        address: usize,
+        length: usize,
+    ) -> impl Into<Answer> {
+        let destination = &mut memory.destination[..length];
+        Ranges::fetch(self, &memory.window, destination, command, address)
+    }
+
+    fn end(&mut self, command: usize) -> impl Into<Answer> {
+        Ranges::end(self, command)
+    }
+
+    fn show(&mut self, command: usize, index: usize) -> impl Into<Answer> {
+        Ranges::show(self, command, index).ok_or(25)
+    }
+}
+
+/// It has no records: where two touch, its bits are in one row. So it can show
+/// none, nor count them at the end.
+impl Cache for Bitmap {
+    fn new() -> Bitmap {
+        Bitmap::of_window(WINDOW)
+    }
+
+    fn reset(&mut self) {
+        (0..8).for_each(|command| Bitmap::begin(self, command));
+    }
+
+    fn begin(&mut self, command: usize) -> impl Into<Answer> {
+        Bitmap::begin(self, command)
+    }
+
+    fn fetch(
+        &mut self,
+        memory: &mut Memory,
+        command: usize,
+        address: usize,
+        length: usize,
+    ) -> impl Into<Answer> {
+        let destination = &mut memory.destination[..length];
+        Bitmap::fetch(self, &memory.window, destination, command, address)
+    }
+
+    fn end(&mut self, command: usize) -> impl Into<Answer> {
+        Answer::Second(Bitmap::end(self, command))
+    }
+
+    fn show(&mut self, _command: usize, _index: usize) -> impl Into<Answer> {
+        Answer::Unknown
+    }
+}

@@ -1,0 +1,162 @@
+//! Something to be measured, by the column of the tables that it belongs to.
+
+use peers::bitmap::Bitmap;
+use peers::ranges::Ranges;
+use plain::journal::{replay, Run};
+
+use crate::call::{make, Call, Unread};
+use crate::cases::{Case, Subject};
+use crate::memory::{Desk, Memory};
+use crate::programs::{Cache, Nothing, Ordinary, Proved};
+
+/// What is measured.
+#[derive(Clone, Copy, Debug, PartialEq, Eq)]
+pub enum Column {
+    Proved,
+    /// The plain program that checks its state at each call.
+    Checked,
+    /// The plain program that does not.
+    Unchecked,
+    Ranges,
+    Bitmap,
+    /// As many bytes as the calls move, copied at once.
+    Copy,
+}
+
+pub const COLUMNS: [Column; 6] = [
+    Column::Proved,
+    Column::Checked,
+    Column::Unchecked,
+    Column::Ranges,
+    Column::Bitmap,
+    Column::Copy,
+];
+
+/// A value for each column, if the column has one.
+pub type ByColumn<T> = [Option<T>; COLUMNS.len()];
+
+/// It can be run again and again; what has to be done before each run is not
+/// measured.
+pub trait Work {
+    fn prepare(&mut self);
+    fn run(&mut self);
+}
+
+/// A case as a program does it: all of it, and what is to be taken off because
+/// it stands around what is of interest. Nothing, if the program cannot.
+pub fn works(case: &Case, column: Column) -> Option<[Box<dyn Work>; 2]> {
+    match (&case.subject, column) {
+        (_, Column::Copy) => {
+            let length = Some(case.moved / case.units).filter(|length| *length > 0)?;
+            let copies = |call| calls::<Nothing>(&[], &vec![call; case.units]);
+            Some([copies(Call::Copy { length }), copies(Call::Idle)])
+        }
+        (
+            Subject::Journals {
+                whole,
+                base,
+                logged,
+            },
+            _,
+        ) => {
+            let of = |journal: &Vec<u8>| journals(column, journal, *logged);
+            Some([of(whole)?, of(base)?])
+        }
+        (Subject::Calls { before, unit }, _) => {
+            let unit = vec![*unit; case.units];
+            let whole = match column {
+                Column::Proved => calls::<Proved>(before, &unit),
+                Column::Checked => calls::<Ordinary<true>>(before, &unit),
+                Column::Unchecked => calls::<Ordinary<false>>(before, &unit),
+                Column::Ranges => calls::<Ranges>(before, &unit),
+                Column::Bitmap if matches!(unit[0], Call::Show { .. }) => return None,
+                _ => calls::<Bitmap>(before, &unit),
+            };
+            Some([whole, calls::<Nothing>(before, &unit)])
+        }
+    }
+}
+
+/// Calls that follow others which are not measured.
+struct Calls<C> {
+    cache: C,
+    memory: Memory,
+    before: Vec<Call>,
+    measured: Vec<Call>,
+}
+
+fn calls<C: Cache + 'static>(before: &[Call], measured: &[Call]) -> Box<dyn Work> {
+    Box::new(Calls {
+        cache: C::new(),
+        memory: Memory::new(),
+        before: before.to_vec(),
+        measured: measured.to_vec(),
+    })
+}
+
+impl<C: Cache> Work for Calls<C> {
+    fn prepare(&mut self) {
+        self.cache.reset();
+        for call in &self.before {
+            make(&mut self.cache, &mut self.memory, *call, &mut Unread);
+        }
+    }
+
+    fn run(&mut self) {
+        for call in &self.measured {
+            make(&mut self.cache, &mut self.memory, *call, &mut Unread);
+        }
+    }
+}
+
+/// A way to run a journal.
+pub type Replay = fn(&mut Desk, &[u8]) -> Run;
+
+/// How a column runs journals, if it can.
+pub fn replay_of(column: Column) -> Option<Replay> {
+    match column {
+        Column::Proved => Some(replay_proved),
+        Column::Checked => Some(replay_plain::<true>),
+        Column::Unchecked => Some(replay_plain::<false>),
+        _ => None,
+    }
+}
+
+fn replay_proved(desk: &mut Desk, journal: &[u8]) -> Run {
+    let [store, window, destination, output] = desk.lend();
+    let reply = boundary::journal_replay(journal, store, window, destination, output);
+    Run {
+        written: reply.written,
+        carried: reply.carried,
+        refused: reply.refused,
+        early: reply.early != 0,
+    }
+}
+
+fn replay_plain<const CHECKED: bool>(desk: &mut Desk, journal: &[u8]) -> Run {
+    let [store, window, destination, output] = desk.lend();
+    replay::<CHECKED>(journal, store, window, destination, output)
+}
+
+/// A journal and its buffers.
+struct Journal {
+    desk: Desk,
+    bytes: Vec<u8>,
+    replay: Replay,
+}
+
+fn journals(column: Column, journal: &[u8], logged: bool) -> Option<Box<dyn Work>> {
+    Some(Box::new(Journal {
+        desk: Desk::new(logged),
+        bytes: journal.to_vec(),
+        replay: replay_of(column)?,
+    }))
+}
+
+impl Work for Journal {
+    fn prepare(&mut self) {}
+
+    fn run(&mut self) {
+        (self.replay)(&mut self.desk, &self.bytes);
+    }
+}

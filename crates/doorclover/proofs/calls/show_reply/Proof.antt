@@ -1,0 +1,26 @@
+-- Each answer's reply: a refusal is its number, and the numbers of a reply are its members.
+use Prim.Native.Nat.{ℕ}
+use mathlib.Core.Path.{ap, sym, _∙_}
+use borrow.Author.Needs.{needs}
+use Rattle.state.specs.Verdict.{refused}
+use Rattle.cache.specs.declared.show.ShowAnswer.{ShowAnswer}
+use Rattle.cache.specs.Show.{showReply}
+use Rattle.doorclover.specs.Replies.{shownOf}
+use Rattle.doorclover.proofs.calls.show_reply.Statement.{statement}
+use Rattle.doorclover.proofs.calls.show_reply.Tie as tie
+
+returns : tie.Need-returns
+returns c = ap (λ (n : ℕ). shownOf (refused n)) (c .status .ensures) ∙ sym (ap (λ (a : ShowAnswer). shownOf (showReply a)) (c .before .before .answer .given .1))
+
+returns-2 : tie.Need-returns-2
+returns-2 c = sym (ap (λ (a : ShowAnswer). shownOf (showReply a)) (c .before .answer2 .given .1))
+
+pub show-reply-spec : {M : Type 1} → statement M
+show-reply-spec =
+    tie.close
+    (tie.spec
+    (λ c. search needs)
+    (λ c κs. search needs)
+    (λ c. search needs)
+    returns
+    returns-2)

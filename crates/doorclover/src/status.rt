@@ -1,0 +1,22 @@
+// The status of a reply.
+ghost use mathlib.Core.Path.{_≡_};
+ghost use Rattle.state.specs.Refusals.{number};
+use state::Refusal;
+
+pub(crate) const OK: u32 = 0;
+
+pub(crate) fn status(why: Refusal) -> u32
+    ensures { λ r. ⌜ r ≡ number why ⌝ }
+{
+    why.number() as u32
+}
+
+// Which interface this is. Functions and members at the end of a reply are added under the next number; no shape changes.
+const RELEASE: u32 = 1;
+
+#[no_mangle]
+pub extern "C" fn doorclover_release() -> u32
+    ensures { λ r. ⌜ r ≡ 1 ⌝ }
+{
+    RELEASE
+}

@@ -1,0 +1,3 @@
+pub mod Fetching
+pub mod Plans
+pub mod Lending

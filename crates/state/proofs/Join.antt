@@ -1,0 +1,36 @@
+-- What joining a span gives: the numbers by which 23 and 24 are judged and, where there is room, the records joined.
+use Prim.Native.Nat.{ℕ, zero, suc, _+_, _-_, _<_}
+use native.Mathlib.Omega.{arith}
+use mathlib.Core.Path.{_≡_, sym, subst}
+use mathlib.Core.Bool.{true}
+use lib.ListN.{length}
+use Rattle.state.specs.declared.Meeting.{Meeting}
+use Rattle.state.specs.Limits.{recordLimit}
+use Rattle.state.specs.State.{CommandState, recordsIn, ascending, commandHolds}
+use Rattle.state.specs.Cut.{Cut}
+use Rattle.state.specs.Join.{meeting, spliced, join, Room, Judged, Joined}
+use Rattle.state.proofs.Found.{Found, found}
+use Rattle.state.proofs.Cut.{cut-found}
+use Rattle.state.proofs.Entries.{fresh-found, count-found, spliced-joined, place-found}
+use Rattle.state.proofs.Commands.{kept-command}
+
+pub join-judged : (p : CommandState) (a n : ℕ) → 0 < n → commandHolds p ≡ true → Judged p a n (join p a (a + n))
+unfolding join spliced
+join-judged p a zero some whole = absurd (omega arith)
+join-judged p a (suc n) some whole =
+    let up = kept-command p whole .up in
+    record { bytes = omega (arith, found (recordsIn p) a n up .held); fresh = fresh-found (recordsIn p) a n up; count = count-found (recordsIn p) a n up }
+
+pub join-joined : (p : CommandState) (a n : ℕ) → 0 < n → length (p .records) ≡ recordLimit → Room p a n → Joined p a n (join p a (a + n))
+unfolding join
+join-joined p a zero some size R = absurd (omega arith)
+join-joined p a (suc n) some size R =
+    let up = kept-command p (R .whole) .up in
+    let m = meeting (recordsIn p) a (a + suc n) in
+    let F = found (recordsIn p) a n up in
+    record {
+      records = spliced-joined p a n R size;
+      place = place-found p a n R size;
+      cut = subst (λ (f : ℕ). Cut (recordsIn p) m f a (a + suc n)) (sym (fresh-found (recordsIn p) a n up)) (cut-found (recordsIn p) a n m F up (R .fits));
+      replaces = F .joins;
+    }

@@ -1,0 +1,5 @@
+pub mod EntryWords
+pub mod StateWords
+pub mod Zero
+pub mod Chain
+pub mod One

@@ -1,0 +1,99 @@
+-- Whether the commands still to come hold together is whether all of them do.
+use borrow.Author.Needs.{needs}
+use native.Mathlib.Omega.{arith}
+use Prim.Native.Nat.{ℕ, _-_, _+_, _*_, _≤_}
+use mathlib.Core.Path.{_≡_, refl, ap, sym, _∙_}
+use mathlib.Core.Bool.{true, false}
+use lib.ListN.{length, getD, drop, drop-of-length-le, length-take, length-drop}
+use borrow.Author.Tests.{not-true, not-false}
+use denote.Ref.{now}
+use Rattle.octets.specs.Lists.{all}
+use Rattle.state.specs.Limits.{commandLimit}
+use Rattle.state.specs.State.{commandHolds, holds, closed}
+use Rattle.state.proofs.Walk.{command-fails, command-next}
+use Rattle.state.specs.Words.{stateOf, commandIn, wordsOf}
+use Rattle.words.proofs.StateWords.{commandsIn, commands-size, command-at}
+use Rattle.words.proofs.holds.holds.Statement.{statement}
+use Rattle.words.proofs.holds.holds.Tie as tie
+
+abbrev Inv-loop : tie.InvT-loop
+Inv-loop words c₀ c = (c ≤ commandLimit) × (all commandHolds (drop c (commandsIn words)) ≡ holds (stateOf words))
+
+abbrev μ-loop : tie.MeasureT-loop
+μ-loop words c₀ c = commandLimit - c
+
+loop-holds : tie.Need-loop-holds Inv-loop μ-loop
+unfolding holds stateOf
+loop-holds c = (omega arith, refl)
+
+mul-low : tie.Need-mul-low Inv-loop μ-loop
+mul-low c = omega arith
+
+add-command-holds : tie.Need-add-command-holds Inv-loop μ-loop
+add-command-holds c = omega arith
+
+mul-command-holds : tie.Need-mul-command-holds Inv-loop μ-loop
+mul-command-holds c = omega arith
+
+sub-command-holds : tie.Need-sub-command-holds Inv-loop μ-loop
+sub-command-holds c = omega arith
+
+part-command-holds-start : tie.Need-part-command-holds-start Inv-loop μ-loop
+part-command-holds-start c = omega arith
+
+part-command-holds-end : tie.Need-part-command-holds-end Inv-loop μ-loop
+part-command-holds-end c = omega arith
+
+command-holds-requires : tie.Need-command-holds-requires Inv-loop μ-loop
+command-holds-requires c κs = simp (length-take, length-drop) (omega arith)
+
+returns : tie.Need-returns Inv-loop μ-loop
+returns c =
+    let l = c .before .before .before .before in
+    let words = now (l .before .before .args .state) in
+    let i = l .loop .c in
+    let size : 129 * i + 129 - 129 * i ≡ 129 = omega arith in
+    let own : commandHolds (getD (commandsIn words) i closed) ≡ false = ap commandHolds (command-at words i closed (omega arith)) ∙ rw size at (sym (c .before .command-holds .ensures)) ∙ not-true _ (c .if1 .taken) in
+    command-fails commandHolds (commandsIn words) i closed (omega (arith, commands-size words)) (l .loop .inv .1) own
+
+add-c : tie.Need-add-c Inv-loop μ-loop
+add-c c = omega arith
+
+loop-less : tie.Need-loop-less Inv-loop μ-loop
+loop-less c = omega arith
+
+loop-again : tie.Need-loop-again Inv-loop μ-loop
+loop-again c =
+    let l = c .before .before .before .before in
+    let words = now (l .before .before .args .state) in
+    let i = l .loop .c in
+    let size : 129 * i + 129 - 129 * i ≡ 129 = omega arith in
+    let own : commandHolds (getD (commandsIn words) i closed) ≡ true = ap commandHolds (command-at words i closed (omega arith)) ∙ rw size at (sym (c .before .command-holds .ensures)) ∙ not-false _ (c .if1 .left) in
+    (omega arith, command-next commandHolds (commandsIn words) i closed (omega (arith, commands-size words)) (l .loop .inv .1) own)
+
+returns-2 : tie.Need-returns-2 Inv-loop μ-loop
+returns-2 c =
+    let l = c .before in
+    let words = now (l .before .before .args .state) in
+    let none = drop-of-length-le (commandsIn words) {i = l .loop .c} (omega (arith, commands-size words)) in
+    sym (sym (l .loop .inv .1) ∙ ap (all commandHolds) none ∙ unfold all in refl)
+
+pub holds-spec : {M : Type 1} → statement M
+holds-spec =
+    tie.close
+    (tie.spec
+    Inv-loop
+    μ-loop
+    loop-holds
+    mul-low
+    add-command-holds
+    mul-command-holds
+    sub-command-holds
+    part-command-holds-start
+    part-command-holds-end
+    command-holds-requires
+    returns
+    add-c
+    loop-less
+    loop-again
+    returns-2)

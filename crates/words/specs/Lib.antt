@@ -1,0 +1,4 @@
+pub mod Holds
+pub mod Bounds
+pub mod Splice
+pub mod Claims

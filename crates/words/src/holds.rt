@@ -1,0 +1,117 @@
+// Whether a state holds together, read in place.
+ghost use mathlib.Core.Path.{_≡_};
+ghost use mathlib.Core.Bool.{_&&_};
+ghost use lib.Dec.{leb};
+ghost use Prim.Native.Nat.{_≤_};
+ghost use lib.ListN.{length, drop};
+ghost use Rattle.octets.specs.Lists.{all};
+ghost use Rattle.state.specs.Limits.{recordLimit, heldLimit, commandWords, stateWords};
+ghost use Rattle.state.specs.Records.{total};
+ghost use Rattle.state.specs.State.{recordsIn, ascending, isZero, commandHolds, holds};
+ghost use Rattle.state.specs.Words.{entriesIn, commandIn, stateOf};
+ghost use Rattle.words.specs.Holds.{allZero, faultOf};
+use crate::entries::entry;
+use crate::entries::half_wide;
+use crate::entries::used;
+use crate::entries::wide;
+use state::CacheState;
+
+// One if a record starts before the end of the one before it, or is empty.
+fn fault(low: u32, start: u32, len: u32) -> u32
+    ensures { λ r. ⌜ (r ≡ faultOf low start len) × (r ≤ 1) ⌝ }
+{
+    if start < low {
+        return 1;
+    }
+    if len == 0 {
+        return 1;
+    }
+    0
+}
+
+// Whether each record starts behind the one before it, is not empty and ends where addresses do, and they hold no more bytes than a
+// command may. Faults are counted, with no test before the end, since one is rare; and where each starts behind the one before it, the
+// last ends highest.
+fn records_hold(words: &[u16]) -> bool
+    requires { ⌜ length (now words) ≡ commandWords ⌝ }
+    ensures { λ r. ⌜ r ≡ (ascending 0 (recordsIn (commandIn (now (words .entry)))) && leb (total (recordsIn (commandIn (now (words .entry))))) heldLimit) ⌝ }
+{
+    let n = used(words);
+    let mut faults: u32 = 0;
+    let mut low: u32 = 0;
+    let mut sum: u32 = 0;
+    let mut i = 0;
+    while i < n {
+        let r = entry(words, i);
+        let start = half_wide(r.start);
+        let len = half_wide(r.len);
+        faults = faults + fault(low, start, len);
+        low = start + len;
+        sum = sum + len;
+        i = i + 1;
+    }
+    if 0 < faults {
+        return false;
+    }
+    if CacheState::WINDOW < low as usize {
+        return false;
+    }
+    sum as usize <= CacheState::HELD
+}
+
+// Whether all words are zero. They are joined by a bitwise or, with no test before the end, so that many are looked at in one
+// instruction.
+fn all_zero(words: &[u16]) -> bool
+    ensures { λ r. ⌜ r ≡ allZero (now (words .entry)) ⌝ }
+{
+    let mut or: u16 = 0;
+    let mut i = 0;
+    while i < words.len() {
+        or = or | words[i];
+        i = i + 1;
+    }
+    or == 0
+}
+
+// Whether the entries from `from` on are zero.
+fn unused_zero(words: &[u16], from: usize) -> bool
+    requires { ⌜ (length (now words) ≡ commandWords) × (from ≤ recordLimit) ⌝ }
+    ensures { λ r. ⌜ r ≡ all isZero (drop from (entriesIn (now (words .entry)))) ⌝ }
+{
+    all_zero(&words[2 * from + 1..])
+}
+
+// Whether a command keeps to every rule.
+fn command_holds(words: &[u16]) -> bool
+    requires { ⌜ length (now words) ≡ commandWords ⌝ }
+    ensures { λ r. ⌜ r ≡ commandHolds (commandIn (now (words .entry))) ⌝ }
+{
+    let word = wide(words[0]);
+    if word <= 1 {
+        return unused_zero(words, 0);
+    }
+    let count = word - 1;
+    if CacheState::RECORDS < count {
+        return false;
+    }
+    if !records_hold(words) {
+        return false;
+    }
+    unused_zero(words, count)
+}
+
+// Whether every command does.
+pub fn holds(state: &[u16]) -> bool
+    requires { ⌜ length (now state) ≡ stateWords ⌝ }
+    ensures { λ r. ⌜ r ≡ holds (stateOf (now (state .entry))) ⌝ }
+{
+    let mut c = 0;
+    while c < CacheState::COMMANDS {
+        let low = CacheState::COMMAND_WORDS * c;
+        if !command_holds(&state[low..low + CacheState::COMMAND_WORDS]) {
+            return false;
+        }
+        c = c + 1;
+    }
+    true
+}

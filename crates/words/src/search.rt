@@ -1,0 +1,84 @@
+// The records that meet a span, found by one search from the lowest start upward.
+ghost use mathlib.Core.Path.{_≡_};
+ghost use lib.ListN.{length, drop};
+ghost use Rattle.state.specs.Limits.{recordLimit, commandWords};
+ghost use Rattle.state.specs.Records.{total};
+ghost use Rattle.state.specs.State.{recordsIn};
+ghost use Rattle.state.specs.Join.{meeting};
+ghost use Rattle.words.specs.Bounds.{Counted, Passed};
+ghost use Rattle.state.specs.Words.{commandIn};
+use crate::entries::entry;
+use crate::entries::used;
+use crate::entries::wide;
+use state::Meeting;
+use state::Record;
+
+// How many distinct bytes the records from `from` on hold.
+pub fn held_from(words: &[u16], from: usize) -> usize
+    requires { ⌜ length (now words) ≡ commandWords ⌝ }
+    ensures { λ r. ⌜ r ≡ total (drop from (recordsIn (commandIn (now (words .entry))))) ⌝ }
+{
+    let n = used(words);
+    let mut sum = 0;
+    let mut i = from;
+    while i < n {
+        let r = entry(words, i);
+        sum = sum + wide(r.len);
+        i = i + 1;
+    }
+    sum
+}
+
+// The search goes on past a record that starts before the span's end: it lies before the span, or meets it.
+fn pass(m: Meeting, r: Record, address: usize) -> Meeting
+    requires { ⌜ Counted m 63 ⌝ }
+    ensures { λ n. ⌜ Passed m r address n ⌝ }
+{
+    let start = wide(r.start);
+    let len = wide(r.len);
+    let past = start + len;
+    if past <= address {
+        return Meeting {
+            first: m.first + 1,
+            last: m.last + 1,
+            low: m.low,
+            high: m.high,
+            below: m.below + len,
+            held: m.held,
+        };
+    }
+    Meeting {
+        first: m.first,
+        last: m.last + 1,
+        low: octets::lesser(start, m.low),
+        high: octets::greater(past, m.high),
+        below: m.below,
+        held: m.held + len,
+    }
+}
+
+// How the span from `address` up to `end` lies among the records.
+pub fn meeting(words: &[u16], address: usize, end: usize) -> Meeting
+    requires { ⌜ length (now words) ≡ commandWords ⌝ }
+    ensures { λ r. ⌜ (r ≡ meeting (recordsIn (commandIn (now (words .entry)))) address end) × Counted r recordLimit ⌝ }
+{
+    let n = used(words);
+    let mut m = Meeting {
+        first: 0,
+        last: 0,
+        low: address,
+        high: end,
+        below: 0,
+        held: 0,
+    };
+    let mut i = 0;
+    while i < n {
+        let r = entry(words, i);
+        if end <= wide(r.start) {
+            return m;
+        }
+        m = pass(m, r, address);
+        i = i + 1;
+    }
+    m
+}

@@ -1,0 +1,227 @@
+//! The library and the reference side by side: each line is carried out on
+//! both, and after a call all that each has is compared.
+
+use std::fmt::Display;
+
+use boundary::WORDS;
+use reference::book::Book;
+
+use crate::answer::Answer;
+use crate::buffers::{Buffer, Buffers, Name, NAMES};
+use crate::call::{made_bytes, Call, Setting};
+use crate::expected::Expected;
+use crate::file::Item;
+use crate::library::Library;
+use crate::line::Line;
+use crate::tally::Tally;
+use crate::words::{book_of, words_of, PER_COMMAND};
+
+/// Both sides, which agree before each line.
+pub struct Pair {
+    library: Library,
+    expected: Expected,
+    kept: Vec<(Library, Expected)>,
+    part: String,
+}
+
+impl Pair {
+    /// The fresh state, and the usual bytes and lengths of all buffers.
+    pub fn new(part: &str) -> Pair {
+        let buffers = Buffers::usual();
+        Pair {
+            library: Library {
+                words: [0; WORDS],
+                buffers: buffers.clone(),
+            },
+            expected: Expected {
+                book: Book::fresh(),
+                buffers,
+            },
+            kept: vec![],
+            part: part.to_string(),
+        }
+    }
+
+    /// Carries out a line, and counts it if it is a call. The answer is a
+    /// complaint if the two sides differ then, or answer what they must not.
+    pub fn carry_out(&mut self, item: &Item, tally: &mut Tally) -> Option<String> {
+        match &item.line {
+            Line::Part(title) => *self = Pair::new(title),
+            Line::Set(setting) => self.set(setting),
+            Line::Keep => self
+                .kept
+                .push((self.library.clone(), self.expected.clone())),
+            Line::PutBack => {
+                let kept = self.kept.pop();
+                (self.library, self.expected) = kept.expect("something was kept");
+            }
+            Line::Call(call, wanted) => return self.call(item, call, wanted, tally),
+        }
+        None
+    }
+
+    /// Sets the same on both sides.
+    fn set(&mut self, setting: &Setting) {
+        match setting {
+            Setting::Lend { buffer, length } => {
+                for side in self.both(*buffer) {
+                    side.length = *length;
+                }
+            }
+            Setting::Fill { buffer, seed } => {
+                for side in self.both(*buffer) {
+                    side.bytes = made_bytes(*seed, buffer.size());
+                }
+            }
+            Setting::Words {
+                command,
+                place,
+                values,
+            } => {
+                let from = command * PER_COMMAND + place;
+                self.library.words[from..from + values.len()].copy_from_slice(values);
+                self.expected.book = book_of(&self.library.words);
+            }
+        }
+    }
+
+    fn both(&mut self, name: Name) -> [&mut Buffer; 2] {
+        let (library, expected) = (&mut self.library, &mut self.expected);
+        [
+            library.buffers.get_mut(name),
+            expected.buffers.get_mut(name),
+        ]
+    }
+
+    /// Makes a call on both sides.
+    fn call(
+        &mut self,
+        item: &Item,
+        call: &Call,
+        wanted: &[u64],
+        tally: &mut Tally,
+    ) -> Option<String> {
+        let data = call.data(item.seed);
+        let given = data.clone();
+        let found = self.library.make(call, &given);
+        let right = self.expected.make(call, &data);
+        tally.count(call, &right);
+        let difference = self.first_difference(&data, &given);
+        let unwanted = (!right.numbers.starts_with(wanted)).then(|| {
+            let numbers = wanted.to_vec();
+            format!("the answer must start with {}", Answer { numbers })
+        });
+        if found == right && difference.is_none() && unwanted.is_none() {
+            return None;
+        }
+        self.agree_again();
+        let answers = format!("the library answers {found}, the reference {right}");
+        let told = [Some(answers), unwanted, difference];
+        Some(self.complaint(item, told.into_iter().flatten()))
+    }
+
+    /// The first place of the first buffer in which the sides differ.
+    fn first_difference(&self, right: &[u8], found: &[u8]) -> Option<String> {
+        let words = words_of(&self.expected.book);
+        let state = difference("the state", &words, &self.library.words);
+        let buffers = NAMES.into_iter().filter_map(|name| {
+            let right = &self.expected.buffers.get(name).bytes;
+            let found = &self.library.buffers.get(name).bytes;
+            difference(&format!("the {}", name.word()), right, found)
+        });
+        let given = difference("the bytes given", right, found);
+        state.into_iter().chain(buffers).chain(given).next()
+    }
+
+    /// Gives the library's side what the reference has.
+    fn agree_again(&mut self) {
+        self.library.words = words_of(&self.expected.book);
+        self.library.buffers = self.expected.buffers.clone();
+    }
+
+    /// The place of a line and the line, and what is told of it.
+    fn complaint(&self, item: &Item, told: impl Iterator<Item = String>) -> String {
+        let first = format!("differs: {}: {} ({})\n", item.place, item.line, self.part);
+        told.fold(first, |text, line| text + &format!("  {line}\n"))
+    }
+}
+
+/// The first place at which two buffers of one length differ, in words.
+fn difference<T: PartialEq + Display>(name: &str, right: &[T], found: &[T]) -> Option<String> {
+    if right == found {
+        return None;
+    }
+    let place = right.iter().zip(found).position(|(a, b)| a != b)?;
+    let [found, right] = [&found[place], &right[place]];
+    Some(format!(
+        "{name} differs first at place {place}: {found} in the library, {right} in the reference"
+    ))
+}
+
+#[cfg(test)]
+mod tests {
+    use super::*;
+    use crate::file::read;
+
+    /// A pair after these lines, on which nothing may differ.
+    fn after(text: &str) -> Pair {
+        let mut pair = Pair::new("a part");
+        for item in read(text).unwrap() {
+            let complaint = pair.carry_out(&item, &mut Tally::default());
+            assert_eq!(complaint, None);
+        }
+        pair
+    }
+
+    /// What is said of a line.
+    fn complaint(pair: &mut Pair, line: &str) -> String {
+        let items = read(line).unwrap();
+        let complaint = pair.carry_out(&items[0], &mut Tally::default());
+        complaint.unwrap_or_default()
+    }
+
+    #[test]
+    fn another_answer_and_another_word_are_told() {
+        let mut pair = after("begin 3\nfetch 3 16+4");
+        pair.library.words[3 * PER_COMMAND + 1] = 17;
+        let told = "differs: line 1: show 3 0 (a part)\n  \
+                    the library answers 0 17 4, the reference 0 16 4\n  \
+                    the state differs first at place 388: 17 in the library, 16 in the reference\n";
+        assert_eq!(complaint(&mut pair, "show 3 0"), told);
+        assert_eq!(complaint(&mut pair, "show 3 0"), "");
+    }
+
+    #[test]
+    fn one_changed_byte_is_told_even_where_it_is_not_lent() {
+        for name in NAMES {
+            for place in [0, name.usual() - 1, name.usual(), name.size() - 1] {
+                let mut pair = after("part a part");
+                pair.library.buffers.get_mut(name).bytes[place] ^= 1;
+                let told = complaint(&mut pair, "show 0 0");
+                let first = format!("the {} differs first at place {place}: ", name.word());
+                assert!(told.contains(&first), "{told}");
+                assert_eq!(complaint(&mut pair, "show 0 0"), "");
+            }
+        }
+    }
+
+    #[test]
+    fn an_answer_that_the_line_does_not_have_is_told() {
+        let mut pair = after("begin 3 = 0");
+        let told = complaint(&mut pair, "fetch 3 16+4 = 0 3");
+        assert!(
+            told.ends_with("\n  the answer must start with 0 3\n"),
+            "{told}"
+        );
+        assert_eq!(complaint(&mut pair, "fetch 3 16+4 = 0 0 4"), "");
+    }
+
+    #[test]
+    fn a_tried_list_leaves_all_as_it_was() {
+        let list = "list some\nbegin 1 = 0\nlend store 0\nhost 5+5\nend 0 = 8\ndone";
+        let pair = after(&format!("{list}\ntry some\ntry some\nbegin 1 = 0"));
+        assert_eq!(pair.library.words[PER_COMMAND], 1);
+        let usual = Buffers::usual();
+        assert_eq!(pair.library.buffers.window.bytes, usual.window.bytes);
+    }
+}

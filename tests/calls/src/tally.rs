@@ -1,0 +1,77 @@
+//! The answers, counted by call and status.
+
+use std::collections::BTreeMap;
+use std::fmt;
+
+use crate::answer::Answer;
+use crate::call::Call;
+
+/// The calls that have a status, with the numbers that can apply to each.
+pub const CAN_APPLY: [(&str, &[u64]); 8] = [
+    ("begin", &[6, 8, 20, 22]),
+    ("fetch", &[4, 6, 7, 8, 9, 10, 20, 21, 23, 24]),
+    ("end", &[6, 8, 20, 21]),
+    ("host", &[4, 7, 9]),
+    ("own", &[4, 6, 7, 9, 20, 21]),
+    ("show", &[6, 20, 21, 25]),
+    ("read", &[1, 2, 3, 4, 5]),
+    ("write", &[2, 3, 4, 5, 6, 10, 11]),
+];
+
+/// Calls by name and status, 0 for those that were accepted or have none.
+#[derive(Clone, Debug, Default, PartialEq, Eq)]
+pub struct Tally {
+    counts: BTreeMap<(&'static str, u64), u64>,
+}
+
+impl Tally {
+    /// Counts a call with its answer.
+    pub fn count(&mut self, call: &Call, answer: &Answer) {
+        let name = call.name();
+        let has_status = CAN_APPLY.iter().any(|(listed, _)| *listed == name);
+        let status = answer.numbers.first().filter(|_| has_status);
+        let key = (name, status.copied().unwrap_or(0));
+        *self.counts.entry(key).or_default() += 1;
+    }
+
+    /// Adds the counts of other calls.
+    pub fn add(&mut self, other: &Tally) {
+        for (key, count) in &other.counts {
+            *self.counts.entry(*key).or_default() += count;
+        }
+    }
+
+    /// How many calls there were.
+    pub fn calls(&self) -> u64 {
+        self.counts.values().sum()
+    }
+
+    /// What calls can answer and did not, in words.
+    pub fn missing(&self) -> Vec<String> {
+        let statuses = |(name, numbers): &(&'static str, &'static [u64])| {
+            let name = *name;
+            [&[0], *numbers]
+                .concat()
+                .into_iter()
+                .map(move |number| (name, number))
+        };
+        let all = CAN_APPLY.iter().flat_map(statuses);
+        all.filter(|key| !self.counts.contains_key(key))
+            .map(|(name, number)| format!("{name} with status {number}"))
+            .collect()
+    }
+}
+
+impl fmt::Display for Tally {
+    fn fmt(&self, out: &mut fmt::Formatter<'_>) -> fmt::Result {
+        let mut lines: BTreeMap<&str, Vec<String>> = BTreeMap::new();
+        for ((name, status), count) in &self.counts {
+            let line = lines.entry(name).or_default();
+            line.push(format!("{status}: {count}"));
+        }
+        for (name, counts) in lines {
+            writeln!(out, "  {name:8}{}", counts.join(", "))?;
+        }
+        Ok(())
+    }
+}
