@@ -1,7 +1,7 @@
 -- What a fetch leaves, case by case: it is refused, it is of no bytes, or its span is held and delivered.
-use Prim.Native.Nat.{ℕ, suc, _+_, _-_, _≤_, _<_}
+use Prim.Native.Nat.{ℕ, _+_, _-_, _≤_, _<_}
 use native.Mathlib.Omega.{arith}
-use mathlib.Core.Path.{_≡_, refl, ap, sym, subst, _∙_}
+use mathlib.Core.Path.{_≡_, refl, ap, sym, _∙_}
 use mathlib.Core.List.{List, [], _∷_, map}
 use mathlib.Core.Bool.{true, false, or-true}
 use lib.ListN.{length, take, drop, getD, length-take, length-map, take-append-drop}

@@ -1,6 +1,5 @@
 -- Case analysis for the records: where a record stands to a span and to an address, and what an ascending list says of its first record.
 use Prim.Native.Nat.{ℕ, _≤_, _<_}
-use native.Mathlib.Omega.{arith}
 use mathlib.Core.Path.{_≡_, refl}
 use mathlib.Core.List.{List, _∷_}
 use mathlib.Core.Bool.{Bool, true, false, and-eq-true-iff, and-false}

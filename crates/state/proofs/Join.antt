@@ -4,12 +4,11 @@ use native.Mathlib.Omega.{arith}
 use mathlib.Core.Path.{_≡_, sym, subst}
 use mathlib.Core.Bool.{true}
 use lib.ListN.{length}
-use Rattle.state.specs.declared.Meeting.{Meeting}
 use Rattle.state.specs.Limits.{recordLimit}
-use Rattle.state.specs.State.{CommandState, recordsIn, ascending, commandHolds}
+use Rattle.state.specs.State.{CommandState, recordsIn, commandHolds}
 use Rattle.state.specs.Cut.{Cut}
 use Rattle.state.specs.Join.{meeting, spliced, join, Room, Judged, Joined}
-use Rattle.state.proofs.Found.{Found, found}
+use Rattle.state.proofs.Found.{found}
 use Rattle.state.proofs.Cut.{cut-found}
 use Rattle.state.proofs.Entries.{fresh-found, count-found, spliced-joined, place-found}
 use Rattle.state.proofs.Commands.{kept-command}

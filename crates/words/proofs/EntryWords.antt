@@ -4,11 +4,11 @@ use native.Mathlib.Omega.{arith}
 use native.Mathlib.Nat.{zero-add}
 use mathlib.Core.Path.{_≡_, refl, ap, ap₂, sym, subst, _∙_}
 use mathlib.Core.Logic.{_≢_, _⊎_, inl, inr, ⊎-elim}
-use mathlib.Core.List.{List, [], _∷_, _++_, map, append-nil}
+use mathlib.Core.List.{List, [], _++_, map, append-nil}
 use mathlib.Core.Bool.{Bool, true, false, cond}
 use lib.Dec.{ltb, eqb}
 use lib.ListN.{length, take, drop, getD, set, length-map, length-take, length-drop, length-set, take-append-drop, drop-of-length-le, List·getD-eq-default}
-use lib.Seq.{take-all, paste, paste-zero, length-take-le, getD-take, getD-drop, getD-set-same, getD-set-other, ext-getD}
+use lib.Seq.{take-all, paste, paste-zero, getD-take, getD-drop, getD-set-same, getD-set-other, ext-getD}
 use borrow.Author.Tests.{eq-eqb, ne-eqb, lt-ltb, ltb-true, ltb-false, eqb-true, eqb-false}
 use Rattle.octets.proofs.Overwrite.{paste-more}
 use Rattle.state.specs.declared.Record.{Record}

@@ -1,5 +1,5 @@
 -- No two arrays of words stand for the same state: what a call says of the state it says of the words.
-use Prim.Native.Nat.{ℕ, zero, suc, _+_, _*_, _-_, _/_, _%_, _≤_, _<_}
+use Prim.Native.Nat.{ℕ, zero, suc, _+_, _*_, _-_, _/_, _%_, _<_}
 use native.Mathlib.Omega.{arith}
 use native.Mathlib.Nat.{div-add-mod', mod-lt}
 use mathlib.Core.Path.{_≡_, refl, ap, sym, subst, _∙_}
@@ -7,16 +7,16 @@ use mathlib.Core.Logic.{_⊎_, inl, inr, ⊎-elim}
 use mathlib.Core.List.{List}
 use mathlib.Core.Bool.{Bool, true, false, false≢true}
 use lib.Dec.{ltb}
-use lib.ListN.{length, take, drop, getD, length-take, length-drop}
+use lib.ListN.{length, drop, getD}
 use lib.Seq.{getD-take, getD-drop, ext-getD}
 use borrow.Author.Tests.{ltb-true, ltb-false}
 use Rattle.state.specs.declared.Record.{Record}
 use Rattle.state.specs.State.{CommandState, State, noRecord, closed}
-use Rattle.state.specs.Limits.{commandLimit, recordLimit, stateWords, commandWords}
-use Rattle.state.specs.Words.{recordAt, commandIn, entriesIn, wordsOf, stateOf}
+use Rattle.state.specs.Limits.{commandLimit, recordLimit, commandWords}
+use Rattle.state.specs.Words.{recordAt, commandIn, wordsOf, stateOf}
 use Rattle.words.specs.Claims.{StateOne}
 use Rattle.words.proofs.EntryWords.{entry-at}
-use Rattle.words.proofs.StateWords.{commandsIn, command-at}
+use Rattle.words.proofs.StateWords.{command-at}
 
 -- a word behind the first is a start or a length
 half : (i : ℕ) → (k : ℕ) × ((suc i ≡ 2 * k + 1) ⊎ (suc i ≡ 2 * k + 1 + 1))

@@ -1,5 +1,5 @@
 -- Laws of the words of a state: the words of each command, and what a command's words put back make of the state.
-use Prim.Native.Nat.{ℕ, suc, _+_, _*_, _-_, _≤_, _<_}
+use Prim.Native.Nat.{ℕ, _+_, _*_, _-_, _<_}
 use native.Mathlib.Omega.{arith}
 use native.Mathlib.Nat.{zero-add, add-zero}
 use mathlib.Core.Path.{_≡_, refl, ap, sym, _∙_}
@@ -7,13 +7,13 @@ use mathlib.Core.Logic.{_≢_}
 use mathlib.Core.List.{List, [], _∷_, _++_, map, append-nil, append-assoc}
 use mathlib.Core.Bool.{Bool, true, false}
 use lib.Dec.{eqb, ltb}
-use lib.ListN.{length, take, drop, getD, set, length-map, length-take, length-drop, length-set, length-append}
+use lib.ListN.{length, take, drop, getD, set, length-map, length-take, length-drop, length-set}
 use lib.Seq.{getD-take, getD-drop, getD-set-same, getD-set-other, ext-getD, take-at, drop-at, length-take-le}
 use borrow.Author.Tests.{eq-eqb, eqb-true, eqb-false, ltb-true, ltb-false}
-use Rattle.octets.specs.Lists.{overwrite, part, all}
+use Rattle.octets.specs.Lists.{overwrite, all}
 use Rattle.octets.proofs.Lists.{both}
 use Rattle.octets.proofs.Overwrite.{overwrite-below, overwrite-above, overwrite-mid, length-overwrite, part-beside}
-use Rattle.state.specs.State.{CommandState, State, closed, commandOf, withCommand, hasShape}
+use Rattle.state.specs.State.{CommandState, closed, commandOf, withCommand, hasShape}
 use Rattle.state.specs.Limits.{commandLimit, recordLimit, commandWords, stateWords}
 use Rattle.state.specs.Records.{span}
 use Rattle.state.proofs.Places.{span-at, length-span}

@@ -17,9 +17,6 @@ returns-2 : tie.Need-returns-2
 unfolding hostSays
 returns-2 c = verdict-goes-on _ _ _ _ (le-ltb transferLimit (c .before .before .args .size) (omega arith)) (verdict-stops _ _ _ _ (lt-ltb windowLimit (c .before .before .args .window-len) (omega arith)))
 
-outside-requires : tie.Need-outside-requires
-outside-requires c κs = search needs
-
 returns-3 : tie.Need-returns-3
 unfolding hostSays
 returns-3 c = verdict-goes-on _ _ _ _ (le-ltb transferLimit (c .before .before .before .before .args .size) (omega arith)) (verdict-goes-on _ _ _ _ (le-ltb windowLimit (c .before .before .before .before .args .window-len) (omega arith)) (verdict-stops _ _ _ _ (sym (c .before .outside .ensures) ∙ c .if3 .taken)))
@@ -29,4 +26,4 @@ unfolding hostSays
 returns-4 c = verdict-goes-on _ _ _ _ (le-ltb transferLimit (c .before .before .before .before .args .size) (omega arith)) (verdict-goes-on _ _ _ _ (le-ltb windowLimit (c .before .before .before .before .args .window-len) (omega arith)) (verdict-goes-on _ _ _ _ (sym (c .before .outside .ensures) ∙ c .if3 .left) (verdict-gives refl)))
 
 pub judge-spec : {M : Type 1} → statement M
-judge-spec = tie.close (tie.spec returns returns-2 outside-requires returns-3 returns-4)
+judge-spec = tie.close (tie.spec returns returns-2 (λ c κs. search needs) returns-3 returns-4)

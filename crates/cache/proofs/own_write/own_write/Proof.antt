@@ -17,14 +17,8 @@ use Rattle.cache.proofs.Accepted.{own-inside}
 use Rattle.cache.proofs.own_write.own_write.Statement.{statement}
 use Rattle.cache.proofs.own_write.own_write.Tie as tie
 
-judge-requires : tie.Need-judge-requires
-judge-requires c κs = search needs
-
 enum-told : tie.Need-enum-told
 enum-told c = search needs
-
-enum-told-2 : tie.Need-enum-told-2
-enum-told-2 c = search needs
 
 -- what is said of the arguments
 abbrev said : tie.Start → Reply
@@ -47,12 +41,6 @@ returns c =
     let no : accepted (said t) ≡ false = ap accepted (says-of writeReply says (c .enum-told2 .given .1)) in
     (says, rw no)
 
-copy-at-requires : tie.Need-copy-at-requires
-copy-at-requires c κs = search needs
-
-same-length : tie.Need-same-length
-same-length c = search needs
-
 returns-2 : tie.Need-returns-2
 unfolding ownWindow
 returns-2 c =
@@ -69,10 +57,10 @@ pub own-write-spec : {M : Type 1} → statement M
 own-write-spec =
     tie.close
     (tie.spec
-    judge-requires
+    (λ c κs. search needs)
     enum-told
-    enum-told-2
+    (λ c. search needs)
     returns
-    copy-at-requires
-    same-length
+    (λ c κs. search needs)
+    (λ c. search needs)
     returns-2)

@@ -1,15 +1,14 @@
 -- The search decides: its numbers are those of the join, and the sums that are formed of them are small.
 use Prim.Native.Nat.{ℕ, _+_, _-_, _≤_, _<_}
 use native.Mathlib.Omega.{arith}
-use mathlib.Core.Path.{_≡_, refl, ap, sym, _∙_}
-use mathlib.Core.List.{List}
-use lib.ListN.{length, drop}
+use mathlib.Core.Path.{_≡_, ap, _∙_}
+use lib.ListN.{drop}
 use denote.Ref.{now}
 use borrow.Author.Needs.{needs}
 use Rattle.state.specs.State.{CommandState, recordsIn}
 use Rattle.state.specs.declared.Meeting.{Meeting}
 use Rattle.state.specs.Join.{Join, meeting, join}
-use Rattle.state.specs.Limits.{recordLimit, heldLimit}
+use Rattle.state.specs.Limits.{heldLimit}
 use Rattle.state.specs.Records.{total}
 use Rattle.state.specs.Words.{commandIn}
 use Rattle.fetch.specs.Plan.{bytesOf}

@@ -36,9 +36,6 @@ loop-holds c =
     let fits = c .before .before .before .before .pre .1 in
     filling-start (recordsIn (commandIn (now (args .words)))) (now (args .part)) (args .base) (now (args .source)) (args .m) (args .fresh) (fits .cut) (fits .room)
 
-sub-k : tie.Need-sub-k Inv-loop μ-loop
-sub-k c = omega arith
-
 -- a turn of the loop
 module _ (c : tie.In-loop Inv-loop μ-loop) where
   abbrev p : CommandState
@@ -85,15 +82,6 @@ module _ (c : tie.In-loop Inv-loop μ-loop) where
 entry-requires : tie.Need-entry-requires Inv-loop μ-loop
 entry-requires c κs = (c .before .before .before .before .before .before .pre .0, below c)
 
-wide-requires : tie.Need-wide-requires Inv-loop μ-loop
-wide-requires c κs = search needs
-
-wide-requires-2 : tie.Need-wide-requires-2 Inv-loop μ-loop
-wide-requires-2 c κs = search needs
-
-add-past : tie.Need-add-past Inv-loop μ-loop
-add-past c = omega arith
-
 module _ (c : tie.After-wide2 Inv-loop μ-loop) where
   abbrev i : tie.In-loop Inv-loop μ-loop
   i = c .before .before .before
@@ -127,12 +115,6 @@ read-host-requires c κs = turning (c .before) .inside
 
 sub-old : tie.Need-sub-old Inv-loop μ-loop
 sub-old c = turning (c .before .before .before .before) .own
-
-move-up-requires : tie.Need-move-up-requires Inv-loop μ-loop
-move-up-requires c κs = search needs
-
-loop-less : tie.Need-loop-less Inv-loop μ-loop
-loop-less c = omega arith
 
 loop-again : tie.Need-loop-again Inv-loop μ-loop
 loop-again c =
@@ -195,18 +177,18 @@ fill-spec =
     μ-loop
     add-old
     loop-holds
-    sub-k
+    (λ c. omega arith)
     entry-requires
-    wide-requires
-    wide-requires-2
-    add-past
+    (λ c κs. search needs)
+    (λ c κs. search needs)
+    (λ c. omega arith)
     sub-gap
     sub-gap-2
     add-read-host
     read-host-requires
     sub-old
-    move-up-requires
-    loop-less
+    (λ c κs. search needs)
+    (λ c. omega arith)
     loop-again
     read-host-requires-2
     same-length

@@ -20,9 +20,6 @@ add-move-up c =
     let p = commandIn (now (e .args .words)) in
     omega (arith, held-fits (recordsIn p) (now (e .args .part)) (e .args .base) (now (e .args .source)) (e .args .m) (e .args .fresh) (e .args .behind) (fits .cut) (fits .room) (e .pre .2))
 
-move-up-requires : tie.Need-move-up-requires
-move-up-requires c κs = search needs
-
 fill-requires : tie.Need-fill-requires
 fill-requires c κs =
     let moved = c .before .before .before in
@@ -32,9 +29,6 @@ fill-requires c κs =
     let size = ap length (moved .move-up .ensures)
     ∙ moved-size (recordsIn p) (now (e .args .part)) (e .args .base) (now (e .args .source)) (e .args .m) (e .args .fresh) (e .args .behind) (fits .cut) (fits .room) (e .pre .2) in
     (e .pre .0, subst (λ (n : ℕ). Fits p (e .args .m) (e .args .fresh) n (e .args .base) (length (now (e .args .source)))) (sym size) fits)
-
-same-length : tie.Need-same-length
-same-length c = search needs
 
 returns : tie.Need-returns
 returns c =
@@ -47,4 +41,4 @@ returns c =
     ∙ repacked-filled (recordsIn p) (now (e .args .part)) (e .args .base) (now (e .args .source)) (e .args .m) (e .args .fresh) (e .args .behind) (fits .cut) (fits .room) (e .pre .2)
 
 pub hold-spec : {M : Type 1} → statement M
-hold-spec = tie.close (tie.spec add-move-up move-up-requires fill-requires same-length returns)
+hold-spec = tie.close (tie.spec add-move-up (λ c κs. search needs) fill-requires (λ c. search needs) returns)

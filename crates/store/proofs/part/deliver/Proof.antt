@@ -11,30 +11,6 @@ use Rattle.octets.specs.Lists.{overwrite, part}
 use Rattle.store.proofs.part.deliver.Statement.{statement}
 use Rattle.store.proofs.part.deliver.Tie as tie
 
-start-requires : tie.Need-start-requires
-start-requires c κs = search needs
-
-add-from : tie.Need-add-from
-add-from c = search needs
-
-add-copy-front : tie.Need-add-copy-front
-add-copy-front c = search needs
-
-sub-copy-front : tie.Need-sub-copy-front
-sub-copy-front c = search needs
-
-part-copy-front-start : tie.Need-part-copy-front-start
-part-copy-front-start c = search needs
-
-part-copy-front-end : tie.Need-part-copy-front-end
-part-copy-front-end c = search needs
-
-copy-front-requires : tie.Need-copy-front-requires
-copy-front-requires c κs = search needs
-
-same-length : tie.Need-same-length
-same-length c = search needs
-
 -- all of it fits
 whole : (dest store : List ℕ) (from size : ℕ) → size ≤ length dest → take (length dest) (take (from + size - from) (drop from store)) ≡ part store from size
 whole dest store from size h =
@@ -55,12 +31,12 @@ pub deliver-spec : {M : Type 1} → statement M
 deliver-spec =
     tie.close
     (tie.spec
-    start-requires
-    add-from
-    add-copy-front
-    sub-copy-front
-    part-copy-front-start
-    part-copy-front-end
-    copy-front-requires
-    same-length
+    (λ c κs. search needs)
+    (λ c. search needs)
+    (λ c. search needs)
+    (λ c. search needs)
+    (λ c. search needs)
+    (λ c. search needs)
+    (λ c κs. search needs)
+    (λ c. search needs)
     returns)

@@ -2,36 +2,20 @@
 use Prim.Native.Nat.{ℕ, _+_, _-_}
 use native.Mathlib.Omega.{arith}
 use mathlib.Core.Path.{_≡_, sym, subst}
-use mathlib.Core.List.{_++_, map}
+use mathlib.Core.List.{_++_}
 use lib.ListN.{length, take, drop, length-take, length-drop}
 use denote.Ref.{now}
 use borrow.Author.Needs.{needs}
 use Rattle.state.specs.Limits.{heldLimit}
-use Rattle.state.specs.Records.{addresses}
 use Rattle.state.specs.Join.{replaced}
 use Rattle.state.specs.State.{recordsIn}
-use Rattle.octets.specs.Lists.{overwrite, part}
+use Rattle.octets.specs.Lists.{part}
 use Rattle.store.specs.Store.{partStart, packed, from, sees}
 use Rattle.store.specs.Hold.{Fits, repacked}
 use Rattle.state.specs.Words.{commandIn}
 use Rattle.store.proofs.Parts.{repacked-store}
 use Rattle.store.proofs.part.hold.Statement.{statement}
 use Rattle.store.proofs.part.hold.Tie as tie
-
-start-requires : tie.Need-start-requires
-start-requires c κs = search needs
-
-add-part : tie.Need-add-part
-add-part c = search needs
-
-sub-part : tie.Need-sub-part
-sub-part c = search needs
-
-part-part-start : tie.Need-part-part-start
-part-part-start c = search needs
-
-part-part-end : tie.Need-part-part-end
-part-part-end c = search needs
 
 hold-requires : tie.Need-hold-requires
 hold-requires c κs =
@@ -40,9 +24,6 @@ hold-requires c κs =
     let p = commandIn (now (e .args .words)) in
     let size : length (take (low + 4096 - low) (drop low (now (e .args .store)))) ≡ heldLimit = simp (length-take, length-drop) (omega arith) in
     (e .pre .2, subst (λ (n : ℕ). Fits p (e .args .m) (e .args .fresh) n (e .args .base) (length (now (e .args .source)))) (sym size) (e .pre .3), e .pre .4)
-
-same-length : tie.Need-same-length
-same-length c = search needs
 
 returns : tie.Need-returns
 returns c =
@@ -64,11 +45,11 @@ pub hold-spec : {M : Type 1} → statement M
 hold-spec =
     tie.close
     (tie.spec
-    start-requires
-    add-part
-    sub-part
-    part-part-start
-    part-part-end
+    (λ c κs. search needs)
+    (λ c. search needs)
+    (λ c. search needs)
+    (λ c. search needs)
+    (λ c. search needs)
     hold-requires
-    same-length
+    (λ c. search needs)
     returns)

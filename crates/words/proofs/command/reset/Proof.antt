@@ -1,10 +1,8 @@
 -- All words are zero, or the first is 1.
-use native.Mathlib.Omega.{arith}
 use Prim.Native.Nat.{ℕ}
 use mathlib.Core.Path.{_≡_, refl, ap, _∙_}
-use mathlib.Core.Bool.{Bool, true, false}
-use lib.ListN.{length, set, replicate, length-set, length-replicate}
-use denote.Ref.{now}
+use mathlib.Core.Bool.{true, false}
+use lib.ListN.{set, replicate}
 use borrow.Author.Needs.{needs}
 use Rattle.state.specs.State.{empty}
 use Rattle.state.specs.Records.{span}

@@ -1,14 +1,10 @@
 -- The test decides.
 use native.Mathlib.Omega.{arith}
-use mathlib.Core.Path.{_∙_, sym}
 use borrow.Author.Needs.{needs}
 use borrow.Author.Tests.{lt-ltb, le-ltb}
 use Rattle.state.specs.Limits.{recordLimit}
 use Rattle.words.proofs.entries.entry_or_none.Statement.{statement}
 use Rattle.words.proofs.entries.entry_or_none.Tie as tie
-
-entry-requires : tie.Need-entry-requires
-entry-requires c κs = search needs
 
 returns : tie.Need-returns
 returns c = rw (lt-ltb (c .before .before .before .args .k) recordLimit (omega arith)) (c .entry .ensures)
@@ -17,4 +13,4 @@ returns-2 : tie.Need-returns-2
 returns-2 c = rw (le-ltb (c .before .before .args .k) recordLimit (omega arith))
 
 pub entry-or-none-spec : {M : Type 1} → statement M
-entry-or-none-spec = tie.close (tie.spec entry-requires returns returns-2)
+entry-or-none-spec = tie.close (tie.spec (λ c κs. search needs) returns returns-2)

@@ -1,8 +1,8 @@
 -- What is joined so far and the words still to come are all zero just if all words are.
-use Prim.Native.Nat.{_-_, _≤_}
+use Prim.Native.Nat.{_-_}
 use native.Mathlib.Omega.{arith}
 use mathlib.Core.Path.{_≡_, refl, _∙_}
-use mathlib.Core.List.{List, []}
+use mathlib.Core.List.{[]}
 use mathlib.Core.Bool.{_&&_, and-true}
 use lib.Dec.{eqb}
 use lib.ListN.{length, drop, drop-of-length-le}

@@ -13,35 +13,17 @@ use borrow.Author.Needs.{needs}
 use Rattle.words.proofs.holds.command_holds.Statement.{statement}
 use Rattle.words.proofs.holds.command_holds.Tie as tie
 
-shared-slice-read-wide : tie.Need-shared-slice-read-wide
-shared-slice-read-wide c = search needs
-
-wide-requires : tie.Need-wide-requires
-wide-requires c κs = search needs
-
-unused-zero-requires : tie.Need-unused-zero-requires
-unused-zero-requires c κs = search needs
-
 returns : tie.Need-returns
 returns c =
     let ws = now (c .before .before .before .before .before .args .words) in
     let none : getD ws 0 0 - 1 ≡ 0 = omega arith in
     c .unused-zero .ensures ∙ ap (λ (k : ℕ). all isZero (drop k (entriesIn ws))) (sym none) ∙ sym (no-records (commandIn ws) none)
 
-sub-count : tie.Need-sub-count
-sub-count c = search needs
-
 returns-2 : tie.Need-returns-2
 returns-2 c = sym (too-many (commandIn (now (c .before .before .before .before .before .args .words))) (omega arith))
 
-records-hold-requires : tie.Need-records-hold-requires
-records-hold-requires c κs = search needs
-
 returns-3 : tie.Need-returns-3
 returns-3 c = sym (records-fail (commandIn (now (c .before .before .before .before .before .before .before .args .words))) (sym (c .before .records-hold .ensures) ∙ not-true _ (c .if3 .taken)))
-
-unused-zero-requires-2 : tie.Need-unused-zero-requires-2
-unused-zero-requires-2 c κs = search needs
 
 returns-4 : tie.Need-returns-4
 returns-4 c =
@@ -54,13 +36,13 @@ pub command-holds-spec : {M : Type 1} → statement M
 command-holds-spec =
     tie.close
     (tie.spec
-    shared-slice-read-wide
-    wide-requires
-    unused-zero-requires
+    (λ c. search needs)
+    (λ c κs. search needs)
+    (λ c κs. search needs)
     returns
-    sub-count
+    (λ c. search needs)
     returns-2
-    records-hold-requires
+    (λ c κs. search needs)
     returns-3
-    unused-zero-requires-2
+    (λ c κs. search needs)
     returns-4)

@@ -1,17 +1,16 @@
 -- Whether the commands still to come hold together is whether all of them do.
-use borrow.Author.Needs.{needs}
 use native.Mathlib.Omega.{arith}
-use Prim.Native.Nat.{ℕ, _-_, _+_, _*_, _≤_}
+use Prim.Native.Nat.{_-_, _+_, _*_, _≤_}
 use mathlib.Core.Path.{_≡_, refl, ap, sym, _∙_}
 use mathlib.Core.Bool.{true, false}
-use lib.ListN.{length, getD, drop, drop-of-length-le, length-take, length-drop}
+use lib.ListN.{getD, drop, drop-of-length-le, length-take, length-drop}
 use borrow.Author.Tests.{not-true, not-false}
 use denote.Ref.{now}
 use Rattle.octets.specs.Lists.{all}
 use Rattle.state.specs.Limits.{commandLimit}
 use Rattle.state.specs.State.{commandHolds, holds, closed}
 use Rattle.state.proofs.Walk.{command-fails, command-next}
-use Rattle.state.specs.Words.{stateOf, commandIn, wordsOf}
+use Rattle.state.specs.Words.{stateOf}
 use Rattle.words.proofs.StateWords.{commandsIn, commands-size, command-at}
 use Rattle.words.proofs.holds.holds.Statement.{statement}
 use Rattle.words.proofs.holds.holds.Tie as tie
@@ -26,24 +25,6 @@ loop-holds : tie.Need-loop-holds Inv-loop μ-loop
 unfolding holds stateOf
 loop-holds c = (omega arith, refl)
 
-mul-low : tie.Need-mul-low Inv-loop μ-loop
-mul-low c = omega arith
-
-add-command-holds : tie.Need-add-command-holds Inv-loop μ-loop
-add-command-holds c = omega arith
-
-mul-command-holds : tie.Need-mul-command-holds Inv-loop μ-loop
-mul-command-holds c = omega arith
-
-sub-command-holds : tie.Need-sub-command-holds Inv-loop μ-loop
-sub-command-holds c = omega arith
-
-part-command-holds-start : tie.Need-part-command-holds-start Inv-loop μ-loop
-part-command-holds-start c = omega arith
-
-part-command-holds-end : tie.Need-part-command-holds-end Inv-loop μ-loop
-part-command-holds-end c = omega arith
-
 command-holds-requires : tie.Need-command-holds-requires Inv-loop μ-loop
 command-holds-requires c κs = simp (length-take, length-drop) (omega arith)
 
@@ -55,12 +36,6 @@ returns c =
     let size : 129 * i + 129 - 129 * i ≡ 129 = omega arith in
     let own : commandHolds (getD (commandsIn words) i closed) ≡ false = ap commandHolds (command-at words i closed (omega arith)) ∙ rw size at (sym (c .before .command-holds .ensures)) ∙ not-true _ (c .if1 .taken) in
     command-fails commandHolds (commandsIn words) i closed (omega (arith, commands-size words)) (l .loop .inv .1) own
-
-add-c : tie.Need-add-c Inv-loop μ-loop
-add-c c = omega arith
-
-loop-less : tie.Need-loop-less Inv-loop μ-loop
-loop-less c = omega arith
 
 loop-again : tie.Need-loop-again Inv-loop μ-loop
 loop-again c =
@@ -85,15 +60,15 @@ holds-spec =
     Inv-loop
     μ-loop
     loop-holds
-    mul-low
-    add-command-holds
-    mul-command-holds
-    sub-command-holds
-    part-command-holds-start
-    part-command-holds-end
+    (λ c. omega arith)
+    (λ c. omega arith)
+    (λ c. omega arith)
+    (λ c. omega arith)
+    (λ c. omega arith)
+    (λ c. omega arith)
     command-holds-requires
     returns
-    add-c
-    loop-less
+    (λ c. omega arith)
+    (λ c. omega arith)
     loop-again
     returns-2)

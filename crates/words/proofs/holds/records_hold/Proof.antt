@@ -1,18 +1,18 @@
 -- What is left of the walk decides, with the faults, the end and the sum that it has come to.
-use Prim.Native.Nat.{ℕ, _+_, _*_, _-_, _≤_}
+use Prim.Native.Nat.{ℕ, _*_, _-_, _≤_}
 use native.Mathlib.Omega.{arith}
 use native.Mathlib.Nat.{zero-add, add-zero}
 use mathlib.Core.Path.{_≡_, ap, ap₂, sym, _∙_}
 use mathlib.Core.Bool.{Bool, _&&_}
 use lib.Dec.{leb}
-use lib.ListN.{length, getD, drop}
+use lib.ListN.{drop}
 use denote.Ref.{now}
 use borrow.Author.Needs.{needs}
 use borrow.Author.Tests.{ne-eqb, eq-eqb, lt-leb, le-leb}
 use Rattle.state.specs.declared.Record.{Record}
 use Rattle.state.specs.Limits.{heldLimit, windowLimit}
 use Rattle.state.specs.Records.{total}
-use Rattle.state.specs.State.{noRecord, recordsIn, ascending}
+use Rattle.state.specs.State.{recordsIn, ascending}
 use Rattle.state.specs.Words.{commandIn}
 use Rattle.state.proofs.Walk.{no-record}
 use Rattle.words.specs.Holds.{faultOf}

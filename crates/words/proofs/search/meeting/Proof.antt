@@ -1,9 +1,8 @@
 use borrow.Author.Needs.{needs}
-use Prim.Native.Nat.{ℕ, _+_, _*_, _-_, _≤_, _<_}
+use Prim.Native.Nat.{_+_, _-_, _≤_}
 use native.Mathlib.Omega.{arith}
-use mathlib.Core.Path.{_≡_, refl, ap, sym, subst, _∙_}
-use mathlib.Core.List.{List}
-use lib.ListN.{length, getD, drop, length-set}
+use mathlib.Core.Path.{_≡_, refl, ap, sym, _∙_}
+use lib.ListN.{getD, drop}
 use denote.Ref.{now}
 use Rattle.state.specs.State.{noRecord, recordsIn}
 use Rattle.state.specs.declared.Record.{Record}
@@ -11,7 +10,7 @@ use Rattle.state.specs.Join.{passed, searched, meeting}
 use Rattle.words.specs.Bounds.{Counted}
 use Rattle.state.proofs.Walk.{at-next, no-record}
 use Rattle.state.proofs.Search.{search-stops, search-on}
-use Rattle.state.specs.Words.{recordAt, commandIn}
+use Rattle.state.specs.Words.{commandIn}
 use Rattle.words.proofs.EntryWords.{entry-at}
 use Rattle.words.proofs.search.meeting.Statement.{statement}
 use Rattle.words.proofs.search.meeting.Tie as tie
@@ -22,18 +21,9 @@ Inv-loop words address end n m₀ i₀ m i = (searched address end (drop i (reco
 abbrev μ-loop : tie.MeasureT-loop
 μ-loop words address end n m₀ i₀ m i = n - i
 
-used-requires : tie.Need-used-requires Inv-loop μ-loop
-used-requires c κs = omega arith
-
 loop-holds : tie.Need-loop-holds Inv-loop μ-loop
 unfolding meeting
 loop-holds c = (refl, record { first = omega arith; last = omega arith; below = omega arith; held = omega arith }, refl, omega arith)
-
-entry-requires : tie.Need-entry-requires Inv-loop μ-loop
-entry-requires c κs = (omega arith, omega arith)
-
-wide-requires : tie.Need-wide-requires Inv-loop μ-loop
-wide-requires c κs = search needs
 
 returns : tie.Need-returns Inv-loop μ-loop
 returns c =
@@ -48,15 +38,6 @@ returns c =
     let is : c .before .before .entry .result ≡ r = c .before .before .entry .ensures ∙ sym (entry-at ws i (omega arith)) in
     let left = at-next p i (omega arith) (λ rs. searched (e .args .address) (e .args .end) rs m) (l .loop .inv .0) in
     (sym (search-stops (e .args .address) (e .args .end) r rest m (omega (arith, ap (λ (r : Record). r .start) is))) ∙ left, record { first = l .loop .inv .1 .first; last = omega arith; below = omega arith; held = omega arith })
-
-pass-requires : tie.Need-pass-requires Inv-loop μ-loop
-pass-requires c κs = search needs
-
-add-i : tie.Need-add-i Inv-loop μ-loop
-add-i c = omega arith
-
-loop-less : tie.Need-loop-less Inv-loop μ-loop
-loop-less c = omega arith
 
 loop-again : tie.Need-loop-again Inv-loop μ-loop
 loop-again c =
@@ -93,13 +74,13 @@ meeting-spec =
     (tie.spec
     Inv-loop
     μ-loop
-    used-requires
+    (λ c κs. omega arith)
     loop-holds
-    entry-requires
-    wide-requires
+    (λ c κs. (omega arith, omega arith))
+    (λ c κs. search needs)
     returns
-    pass-requires
-    add-i
-    loop-less
+    (λ c κs. search needs)
+    (λ c. omega arith)
+    (λ c. omega arith)
     loop-again
     returns-2)

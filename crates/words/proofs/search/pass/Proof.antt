@@ -8,24 +8,6 @@ use Rattle.state.proofs.Search.{passed-before, passed-meets}
 use Rattle.words.proofs.search.pass.Statement.{statement}
 use Rattle.words.proofs.search.pass.Tie as tie
 
-wide-requires : tie.Need-wide-requires
-wide-requires c κs = search needs
-
-wide-requires-2 : tie.Need-wide-requires-2
-wide-requires-2 c κs = search needs
-
-add-past : tie.Need-add-past
-add-past c = search needs
-
-add-t8 : tie.Need-add-t8
-add-t8 c = search needs
-
-add-t9 : tie.Need-add-t9
-add-t9 c = search needs
-
-add-t10 : tie.Need-add-t10
-add-t10 c = search needs
-
 returns : tie.Need-returns
 returns c =
     let m = c .before .before .before .before .before .before .args .m in
@@ -39,18 +21,6 @@ returns c =
       below = omega arith;
       held = omega arith;
     }
-
-add-t11 : tie.Need-add-t11
-add-t11 c = search needs
-
-lesser-requires : tie.Need-lesser-requires
-lesser-requires c κs = search needs
-
-greater-requires : tie.Need-greater-requires
-greater-requires c κs = search needs
-
-add-t14 : tie.Need-add-t14
-add-t14 c = search needs
 
 returns-2 : tie.Need-returns-2
 returns-2 c =
@@ -74,15 +44,15 @@ pub pass-spec : {M : Type 1} → statement M
 pass-spec =
     tie.close
     (tie.spec
-    wide-requires
-    wide-requires-2
-    add-past
-    add-t8
-    add-t9
-    add-t10
+    (λ c κs. search needs)
+    (λ c κs. search needs)
+    (λ c. search needs)
+    (λ c. search needs)
+    (λ c. search needs)
+    (λ c. search needs)
     returns
-    add-t11
-    lesser-requires
-    greater-requires
-    add-t14
+    (λ c. search needs)
+    (λ c κs. search needs)
+    (λ c κs. search needs)
+    (λ c. search needs)
     returns-2)

@@ -1,9 +1,7 @@
-use borrow.Author.Needs.{needs}
-use Prim.Native.Nat.{ℕ, _+_, _*_, _-_, _≤_, _<_}
+use Prim.Native.Nat.{ℕ, _-_, _≤_}
 use native.Mathlib.Omega.{arith}
-use mathlib.Core.Path.{_≡_, refl, ap, sym, subst, _∙_}
-use mathlib.Core.List.{List}
-use lib.ListN.{length, getD, drop, length-set}
+use mathlib.Core.Path.{_≡_, subst}
+use lib.ListN.{length, length-set}
 use denote.Ref.{now}
 use Rattle.state.specs.Limits.{commandWords}
 use Rattle.words.specs.Splice.{MovedUp}
@@ -20,21 +18,6 @@ abbrev μ-loop : tie.MeasureT-loop
 loop-holds : tie.Need-loop-holds Inv-loop μ-loop
 loop-holds c = (omega arith, omega arith, omega arith, up-none (now (c .before .args .words)) (c .before .args .used))
 
-sub-entry : tie.Need-sub-entry Inv-loop μ-loop
-sub-entry c = omega arith
-
-entry-requires : tie.Need-entry-requires Inv-loop μ-loop
-entry-requires c κs = (omega arith, omega arith)
-
-put-requires : tie.Need-put-requires Inv-loop μ-loop
-put-requires c κs = (omega arith, omega arith)
-
-sub-k : tie.Need-sub-k Inv-loop μ-loop
-sub-k c = omega arith
-
-loop-less : tie.Need-loop-less Inv-loop μ-loop
-loop-less c = omega arith
-
 loop-again : tie.Need-loop-again Inv-loop μ-loop
 loop-again c =
     let l = c .before .before .before .before .before .before .before in
@@ -42,9 +25,6 @@ loop-again c =
     let put = c .before .before .put in
     let step = up-step (now (e .args .words)) (l .loop .words) (l .loop .k) (e .args .used) (c .before .before .before .before .entry .result) (omega arith) (omega arith) (omega arith) (omega arith) (l .loop .inv .3) (c .before .before .before .before .entry .ensures) in
     (omega arith, omega arith, rw (put .ensures) (simp length-set (omega arith)), rw (put .ensures) step)
-
-same-length : tie.Need-same-length Inv-loop μ-loop
-same-length c = omega arith
 
 returns : tie.Need-returns Inv-loop μ-loop
 returns c =
@@ -60,11 +40,11 @@ move-up-spec =
     Inv-loop
     μ-loop
     loop-holds
-    sub-entry
-    entry-requires
-    put-requires
-    sub-k
-    loop-less
+    (λ c. omega arith)
+    (λ c κs. (omega arith, omega arith))
+    (λ c κs. (omega arith, omega arith))
+    (λ c. omega arith)
+    (λ c. omega arith)
     loop-again
-    same-length
+    (λ c. omega arith)
     returns)

@@ -1,31 +1,10 @@
-use Prim.Native.Nat.{ℕ, _+_, _*_, _-_, _≤_, _<_}
+use Prim.Native.Nat.{_-_}
 use native.Mathlib.Omega.{arith}
-use mathlib.Core.Path.{_≡_, refl, ap, sym, subst, _∙_}
-use mathlib.Core.List.{List}
-use lib.ListN.{length, getD, drop, length-set}
 use denote.Ref.{now}
 use Rattle.words.proofs.EntryWords.{sealed}
 use borrow.Author.Needs.{needs}
 use Rattle.words.proofs.splice.seal.Statement.{statement}
 use Rattle.words.proofs.splice.seal.Tie as tie
-
-union-requires : tie.Need-union-requires
-union-requires c κs = search needs
-
-put-requires : tie.Need-put-requires
-put-requires c κs = search needs
-
-add-words : tie.Need-add-words
-add-words c = search needs
-
-cast-words : tie.Need-cast-words
-cast-words c = search needs
-
-slice-write-words : tie.Need-slice-write-words
-slice-write-words c = search needs
-
-same-length : tie.Need-same-length
-same-length c = search needs
 
 returns : tie.Need-returns
 returns c =
@@ -37,10 +16,10 @@ pub seal-spec : {M : Type 1} → statement M
 seal-spec =
     tie.close
     (tie.spec
-    union-requires
-    put-requires
-    add-words
-    cast-words
-    slice-write-words
-    same-length
+    (λ c κs. search needs)
+    (λ c κs. search needs)
+    (λ c. search needs)
+    (λ c. search needs)
+    (λ c. search needs)
+    (λ c. search needs)
     returns)
