@@ -1,7 +1,7 @@
 //! The archive's functions and replies, as they are declared for C.
 //!
-//! A reply begins with its status, 0 or the number of a refusal; of a refused
-//! call the other members are 0.
+//! The reply of a call begins with its status, 0 or the number of a refusal; of
+//! a refused call the other members are 0.
 
 #[repr(C)]
 #[derive(Clone, Copy, Debug, PartialEq, Eq)]

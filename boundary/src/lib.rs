@@ -6,8 +6,7 @@
 //! and lengths; it does rely on what a Rust reference means: the memory is
 //! there, no two of the arguments share a byte, and nobody else writes them
 //! during the call. The safe functions here have that from their types.
-//! [`fetch_in`] and [`journal_replay_in`] do not for the window, and whoever
-//! calls them answers for it.
+//! [`fetch_in`] does not for the window, and whoever calls it answers for it.
 
 mod exported;
 
@@ -27,15 +26,6 @@ pub type Words = [u16; WORDS];
 pub struct RawWindow {
     pub start: *mut u8,
     pub length: usize,
-}
-
-impl RawWindow {
-    fn of(window: &mut [u8]) -> RawWindow {
-        RawWindow {
-            start: window.as_mut_ptr(),
-            length: window.len(),
-        }
-    }
 }
 
 /// Which interface the archive has.
@@ -192,35 +182,19 @@ pub fn journal_replay(
     destination: &mut [u8],
     output: &mut [u8],
 ) -> Replayed {
-    let window = RawWindow::of(window);
     // SAFETY: what is lent comes from references that live through the call.
-    unsafe { journal_replay_in(journal, store, window, destination, output) }
-}
-
-/// The same on a window that is given by its place.
-///
-/// # Safety
-///
-/// The window must be memory that the process may read and write, and share no
-/// byte with what else is lent. Where somebody else writes it during the call,
-/// the proof says nothing of the run.
-pub unsafe fn journal_replay_in(
-    journal: &[u8],
-    store: &mut [u8],
-    window: RawWindow,
-    destination: &mut [u8],
-    output: &mut [u8],
-) -> Replayed {
-    exported::doorclover_journal_replay(
-        journal.as_ptr(),
-        journal.len(),
-        store.as_mut_ptr(),
-        store.len(),
-        window.start,
-        window.length,
-        destination.as_mut_ptr(),
-        destination.len(),
-        output.as_mut_ptr(),
-        output.len(),
-    )
+    unsafe {
+        exported::doorclover_journal_replay(
+            journal.as_ptr(),
+            journal.len(),
+            store.as_mut_ptr(),
+            store.len(),
+            window.as_mut_ptr(),
+            window.len(),
+            destination.as_mut_ptr(),
+            destination.len(),
+            output.as_mut_ptr(),
+            output.len(),
+        )
+    }
 }

@@ -185,8 +185,7 @@ pub extern "C" fn doorclover_host_write(window: &mut [u8], address: usize, bytes
     write_reply(cache::host_write::host_write(window, address, bytes))
 }
 
-// State and store are lent to be changed, so that a command can come to hold what it writes without another function; they stay as
-// they are.
+// State and store are lent as to the other calls of a command, and stay as they are.
 #[no_mangle]
 pub extern "C" fn doorclover_own_write(
     state: &mut [u16; CacheState::WORDS],
@@ -197,7 +196,8 @@ pub extern "C" fn doorclover_own_write(
     bytes: &[u8],
 ) -> Written
     ensures reply { λ r. ⌜ r ≡ writtenOf (ownSays (stateOf (now (state .entry))) (length (now (window .entry))) command address (length (now (bytes .entry)))) ⌝ }
-    ensures state { λ _. ⌜ (now (state .exit) ≡ now (state .entry)) × (now (store .exit) ≡ now (store .entry)) ⌝ }
+    ensures state { λ _. ⌜ now (state .exit) ≡ now (state .entry) ⌝ }
+    ensures store { λ _. ⌜ now (store .exit) ≡ now (store .entry) ⌝ }
     ensures window { λ _. ⌜ now (window .exit) ≡ ownWindow (stateOf (now (state .entry))) (now (window .entry)) command address (now (bytes .entry)) ⌝ }
 {
     write_reply(cache::own_write::own_write(state, window, command, address, bytes))

@@ -1,6 +1,6 @@
-// What firmware links: every call as a function for C, thin over the proved ones. A reply is a small struct by value that begins with
-// its status, 0 or the number of a refusal; of a refused call the other members are 0. specs/Replies.antt gives each reply from what
-// the call says.
+// What firmware links: every call as a function for C, thin over the proved ones. The reply of a call is a small struct by value that
+// begins with its status, 0 or the number of a refusal; of a refused call the other members are 0. specs/Replies.antt gives it from
+// what the call says. A journal has no status, since every journal is run.
 mod calls;
 mod frame;
 mod replay;

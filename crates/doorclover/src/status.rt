@@ -11,7 +11,7 @@ pub(crate) fn status(why: Refusal) -> u32
     why.number() as u32
 }
 
-// Which interface this is. Functions and members at the end of a reply are added under the next number; no shape changes.
+// Which interface this is.
 const RELEASE: u32 = 1;
 
 #[no_mangle]

@@ -67,7 +67,7 @@ pub record Lent (words store window dest : List ℕ) (c a n : ℕ) : Type 0 wher
   pub takes : n ≤ length dest
 
 -- and of a span for which there is room: what `hold`, `deliver` and `splice` need, and what they make of the words
-pub record Room (words store window dest : List ℕ) (c a n : ℕ) (m : Meeting) (new place rest : ℕ) : Type 0 where
+pub record SpanRoom (words store window dest : List ℕ) (c a n : ℕ) (m : Meeting) (new place rest : ℕ) : Type 0 where
   pub fits : Fits (commandIn (lent words c)) m new heldLimit 0 (length window)
   pub behind : rest ≡ total (drop (m .last) (recordsIn (commandIn (lent words c))))
   pub placed : place + n ≤ heldLimit
@@ -172,7 +172,7 @@ module _ (words store window dest : List ℕ) (c a n : ℕ) (whole : length word
         delivered = leaves .delivered;
       }
 
-    pub room : Room words store window dest c a n m fresh place behind
+    pub room : SpanRoom words store window dest c a n m fresh place behind
     room = record {
       fits = subst (λ (q : CommandState). Fits q m fresh heldLimit 0 (length window)) (sym own) joined-fits;
       behind = P .rest ∙ ap (λ (k : Meeting). total (drop (k .last) (recordsIn p))) (sym (P .meets)) ∙ ap (λ (q : CommandState). total (drop (m .last) (recordsIn q))) (sym own);

@@ -9,9 +9,9 @@ use lib.ListN.{length, getD}
 use Rattle.octets.specs.Lists.{part}
 use Rattle.state.specs.declared.Record.{Record}
 use Rattle.state.specs.Records.{inSpan, held, place, addresses, total}
-use Rattle.state.specs.State.{recordsOf, isOpen}
+use Rattle.state.specs.State.{commandOf, recordsOf, isOpen}
 use Rattle.state.proofs.Laws.{map-held, packed-back}
-use Rattle.state.proofs.Commands.{kept, open-below}
+use Rattle.state.proofs.Commands.{Kept, kept, open-below}
 use Rattle.store.specs.Store.{partStart, packedBytes}
 use Rattle.store.proofs.Parts.{packed-part}
 use Rattle.cache.specs.Runs.{Machine, start, ran}
@@ -56,17 +56,22 @@ module _ (m : Machine) (mem : Memory) (S : Sound m mem) (c : ℕ) (o : isOpen (m
   held-known : (x : ℕ) → held rs x ≡ isKnown (mem c x)
   held-known x = rw (S .known c x o) (known-held (held rs x) (getD (m .store) (partStart c + place rs x) 0))
 
+  K : Kept (commandOf (m .state) c)
+  K = kept (m .state) c (S .state .whole)
+
+  part-fits : partStart c + total rs ≤ length (m .store)
+  part-fits = omega (arith, K .small, open-below (m .state) c (S .state .shape) o, S .size c o)
+
   part-known : packedBytes (m .state) (m .store) c (total rs) ≡ map (λ x. recall (mem c x)) (addresses rs)
   part-known =
-      let K = kept (m .state) c (S .state .whole) in
-      let fits : partStart c + total rs ≤ length (m .store) = omega (arith, K .small, open-below (m .state) c (S .state .shape) o, S .size c o) in
-      packed-part (m .state) (m .store) c (total rs) fits
-      ∙ sym (map-held (λ x. recall (mem c x)) (λ x. getD (m .store) (partStart c + place rs x) 0) rs (λ x h. rw (S .known c x o, h)) ∙ packed-back (m .store) (partStart c) 0 rs (K .up) fits)
+      packed-part (m .state) (m .store) c (total rs) part-fits
+      ∙ sym (map-held (λ x. recall (mem c x)) (λ x. getD (m .store) (partStart c + place rs x) 0) rs (λ x h. rw (S .known c x o, h)) ∙ packed-back (m .store) (partStart c) 0 rs (K .up) part-fits)
 
 pub stored-bytes : StoredBytes
 stored-bytes store ps c o =
     let S = sound-ran [] (start store) ps (sound-start store) in
     record {
       records = held-known (ran (start store) ps) (memory (backwards [] (journal store ps))) S c o;
+      within = λ k h. omega (arith, part-fits (ran (start store) ps) (memory (backwards [] (journal store ps))) S c o);
       bytes = part-known (ran (start store) ps) (memory (backwards [] (journal store ps))) S c o;
     }

@@ -1,6 +1,6 @@
 -- The claims about whole lists of calls, refused ones included, from the fresh state and a store of any bytes and any length; and
 -- at the end those about one call, whatever state and store it is given.
-use Prim.Native.Nat.{ℕ, _+_, _-_}
+use Prim.Native.Nat.{ℕ, _+_, _-_, _<_}
 use mathlib.Core.Path.{_≡_}
 use mathlib.Core.List.{List, [], _∷_, map}
 use mathlib.Core.Bool.{Bool, true, false, not}
@@ -13,7 +13,7 @@ use Rattle.state.specs.Records.{inSpan, held, addresses, total}
 use Rattle.state.specs.State.{holds, hasShape, commandOf, recordsOf, isOpen}
 use Rattle.state.specs.Words.{stateOf}
 use Rattle.state.specs.Verdict.{refused, replied, accepted}
-use Rattle.store.specs.Store.{partStart, packedBytes}
+use Rattle.store.specs.Store.{partStart, location, packedBytes}
 use Rattle.cache.specs.Runs.{Call, begin, fetch, end, hostWrite, ownWrite, show, Machine, start, along, ran, says, stateAfter, storeAfter, after, destGiven, destAfter, windowGiven, windowAfter, delivers}
 use Rattle.history.specs.Journal.{Event, event, journal, told, backwards, Deed, began, fetched, ended, other, deed}
 use Rattle.history.specs.Firsts.{Memory, memory, isKnown, fetchedSince, firsts, recall, owed}
@@ -42,6 +42,7 @@ memoryAfter store ps = memory (backwards [] (journal store ps))
 
 pub record Holding (store : List ℕ) (ps : List Call) (c : ℕ) : Type 0 where
   pub records : (x : ℕ) → held (recordsOf (ran (start store) ps .state) c) x ≡ isKnown (memoryAfter store ps c x)
+  pub within : (k : ℕ) → k < total (recordsOf (ran (start store) ps .state) c) → location (ran (start store) ps .state) c k < length (ran (start store) ps .store)
   pub bytes :
       packedBytes (ran (start store) ps .state) (ran (start store) ps .store) c (total (recordsOf (ran (start store) ps .state) c))
       ≡ map (λ x. recall (memoryAfter store ps c x)) (addresses (recordsOf (ran (start store) ps .state) c))
@@ -111,7 +112,7 @@ pub record EqualRuns (store : List ℕ) (ps qs : List Call) : Type 0 where
 abbrev pub EqualRunsRule : Type 0
 EqualRunsRule = (store : List ℕ) (ps qs : List Call) → map common ps ≡ map common qs → EqualRuns store ps qs
 
--- After every list the state holds together, in the shape that the code's types give, and so the answer 20 is never given.
+-- After every list the state holds together, in the shape that words give a state, and so the answer 20 is never given.
 abbrev pub AlwaysHolds : Type 0
 AlwaysHolds =
     (store : List ℕ) (ps : List Call) → (holds (ran (start store) ps .state) ≡ true) × (hasShape (ran (start store) ps .state) ≡ true)

@@ -1,6 +1,6 @@
 -- Laws of tests and of lists: both of two tests, a test on every element, equal heads and tails, an element of two lists put together, as many elements as there are.
-use Prim.Native.Nat.{ℕ, zero, suc, _+_, _<_, min}
-use native.Mathlib.Nat.{zero-min, min-zero, suc-min-suc, le-of-suc-le-suc, not-suc-le-zero}
+use Prim.Native.Nat.{ℕ, zero, suc, _+_, min}
+use native.Mathlib.Nat.{zero-min, min-zero, suc-min-suc}
 use mathlib.Core.Path.{_≡_, refl, ap, subst}
 use mathlib.Core.List.{List, [], _∷_, _++_}
 use mathlib.Core.Bool.{Bool, true, false, _&&_}
@@ -59,9 +59,3 @@ module _ {A : Type 0} where
   take-min zero l = rw zero-min
   take-min (suc n) [] = rw min-zero
   take-min (suc n) (x ∷ xs) = rw suc-min-suc (ap (λ (l : List A). x ∷ l) (take-min n xs))
-
-  -- within a list the default does not matter
-  pub getD-within : (l : List A) (i : ℕ) (d e : A) → i < length l → getD l i d ≡ getD l i e
-  getD-within [] i d e h = absurd (not-suc-le-zero h)
-  getD-within (x ∷ l) zero d e h = refl
-  getD-within (x ∷ l) (suc i) d e h = getD-within l i d e (le-of-suc-le-suc h)

@@ -4,11 +4,11 @@ use native.Mathlib.Omega.{arith}
 use mathlib.Core.Path.{_≡_, refl, sym, ap, ap₂, _∙_}
 use mathlib.Core.Logic.{_≢_}
 use mathlib.Core.List.{List, [], _∷_, _++_}
-use mathlib.Core.Bool.{Bool, true, false, false≢true, _&&_, _||_, and-true, and-false, or-true}
+use mathlib.Core.Bool.{Bool, true, false, false≢true, _&&_, _||_, and-true, or-true}
 use lib.Dec.{ltb, leb, eqb}
 use lib.ListN.{length, drop, replicate, length-set, length-append, length-replicate, length-drop, take-append-drop, List·getD-eq-default}
 use lib.Seq.{getD-set-same, getD-set-other, take-append-seam, drop-append-seam, length-take-le, set-getD}
-use borrow.Author.Tests.{ltb-true, ltb-false, leb-true, le-leb, lt-leb, eqb-true, eq-eqb, ne-eqb}
+use borrow.Author.Tests.{ltb-true, ltb-false, leb-true, le-leb, lt-leb, eqb-true, eq-eqb}
 use Rattle.octets.specs.Lists.{all}
 use Rattle.octets.proofs.Lists.{both, and-left, and-right, all-at, all-set, all-replicate}
 use Rattle.state.specs.declared.Record.{Record}
@@ -151,10 +151,6 @@ module _ (p : CommandState) where
   pub no-records : p .count ≡ 0 → commandHolds p ≡ all isZero (drop (p .count) (p .records))
   unfolding commandHolds ascending total
   no-records none = rw (none, or-true, and-true)
-
-  pub closed-with-records : p .opened ≡ false → p .count ≢ 0 → commandHolds p ≡ false
-  unfolding commandHolds
-  closed-with-records shut some = rw (shut, ne-eqb (p .count) 0 some, and-false)
 
   pub too-many : recordLimit < p .count → commandHolds p ≡ false
   unfolding commandHolds

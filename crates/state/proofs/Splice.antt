@@ -1,21 +1,19 @@
--- For the loop that writes the entries of a command with the union put in, one after the other.
+-- The entries of a command with the union put in, of which only some are written.
 use Prim.Native.Nat.{ℕ, _+_, _-_, _≤_, _<_, min}
 use native.Mathlib.Omega.{arith}
 use native.Mathlib.Nat.{zero-add}
-use mathlib.Core.Path.{_≡_, ap, ap₂, sym, _∙_}
+use mathlib.Core.Path.{_≡_, ap, sym, _∙_}
 use mathlib.Core.List.{List, [], _++_, map, append-nil}
 use mathlib.Core.Bool.{Bool, true, false, cond}
-use lib.ListN.{length, take, drop, getD, set, length-map, length-drop, take-append-drop}
-use lib.Seq.{paste, length-take-le, getD-take, getD-drop, ext-getD}
+use lib.ListN.{length, take, drop, getD, length-map, length-drop, take-append-drop}
+use lib.Seq.{paste, getD-drop, ext-getD}
 use lib.Dec.{eqb}
-use Rattle.octets.proofs.Overwrite.{paste-more}
 use Rattle.state.specs.declared.Record.{Record}
 use Rattle.state.specs.declared.Meeting.{Meeting}
 use Rattle.state.specs.Limits.{recordLimit}
 use Rattle.state.specs.Records.{span}
 use Rattle.state.specs.State.{CommandState, noRecord, recordsIn}
 use Rattle.state.specs.Join.{entryAfter, changedUpTo, spliced}
-use Rattle.state.proofs.Search.{entry-before}
 use Rattle.state.proofs.Places.{span-at, length-span}
 
 pub changed-within : (used : ℕ) (m : Meeting) → m .last ≤ recordLimit → changedUpTo used m ≤ recordLimit
@@ -47,20 +45,7 @@ module _ (p : CommandState) (m : Meeting) where
   written-is k = ap (λ (j : ℕ). take k (wanted p m) ++ drop j (p .records)) (zero-add k)
 
   module _ (size : length (p .records) ≡ recordLimit) (k : ℕ) (most : k ≤ recordLimit) where
-    -- where the first k entries stay as they are, they are written already
-    front-written : ((i : ℕ) → i < k → entryAfter (p .records) m i ≡ getD (p .records) i noRecord) → p .records ≡ written p m k
-    front-written same =
-        sym (written-is k ∙ ap (λ (l : List Record). l ++ drop k (p .records)) (ext-getD noRecord (take k (wanted p m)) (take k (p .records)) sizes alike) ∙ take-append-drop k (p .records))
-      where
-        sizes : length (take k (wanted p m)) ≡ length (take k (p .records))
-        sizes = length-take-le k (wanted p m) (omega (arith, wanted-size)) ∙ sym (length-take-le k (p .records) (omega arith))
-
-        alike : (i : ℕ) → i < length (take k (wanted p m)) → getD (take k (wanted p m)) i noRecord ≡ getD (take k (p .records)) i noRecord
-        alike i h =
-            let near : i < k = omega (arith, length-take-le k (wanted p m) (omega (arith, wanted-size))) in
-            getD-take k (wanted p m) i noRecord near ∙ wanted-at i (omega arith) ∙ same i near ∙ sym (getD-take k (p .records) i noRecord near)
-
-    -- and where those from k on do, all are
+    -- where those from k on stay as they are, all are written
     pub back-written : ((i : ℕ) → k ≤ i → i < recordLimit → entryAfter (p .records) m i ≡ getD (p .records) i noRecord) → written p m k ≡ wanted p m
     back-written same =
         written-is k ∙ ap (λ (l : List Record). take k (wanted p m) ++ l) (ext-getD noRecord (drop k (p .records)) (drop k (wanted p m)) sizes alike) ∙ take-append-drop k (wanted p m)
@@ -72,28 +57,6 @@ module _ (p : CommandState) (m : Meeting) where
         alike i h =
             let near : k + i < recordLimit = omega (arith, length-drop k (p .records)) in
             getD-drop k (p .records) i noRecord ∙ sym (same (k + i) (omega arith) near) ∙ sym (wanted-at (k + i) near) ∙ sym (getD-drop k (wanted p m) i noRecord)
-
-  -- before the first record that is met nothing changes
-  pub none-written : length (p .records) ≡ recordLimit → m .first ≤ recordLimit → p .records ≡ written p m (m .first)
-  none-written size most = front-written size (m .first) most (λ i h. entry-before (p .records) m i h)
-
-  module _ (size : length (p .records) ≡ recordLimit) (entries : List Record) (k : ℕ) (so-far : entries ≡ written p m k) where
-    one-written : (r : Record) → k < recordLimit → r ≡ entryAfter (p .records) m k → set entries k r ≡ written p m (k + 1)
-    one-written r h e =
-        ap₂ (λ (l : List Record) (t : Record). set l k t) so-far (e ∙ sym (wanted-at k h))
-        ∙ paste-more (p .records) (wanted p m) k noRecord (omega arith) (omega (arith, wanted-size))
-
-  -- one entry more of a command whose other fields are the old ones
-  pub entry-stored :
-      length (p .records) ≡ recordLimit → (k end : ℕ) (next next′ : CommandState) → next .opened ≡ p .opened → next .records ≡ written p m k → m .first ≤ k → k < end → end ≤ recordLimit
-      → (r : Record) → next′ ≡ record { opened = next .opened; count = next .count; records = set (next .records) k r } → r ≡ entryAfter (p .records) m k
-      → (next′ .opened ≡ p .opened) × (next′ .records ≡ written p m (k + 1)) × (m .first ≤ k + 1) × (k + 1 ≤ end)
-  entry-stored size k end next next′ opened so-far behind below most r stored is = (
-    ap (λ (q : CommandState). q .opened) stored ∙ opened,
-    ap (λ (q : CommandState). q .records) stored ∙ one-written size (next .records) k so-far r (omega arith) is,
-    omega arith,
-    omega arith,
-  )
 
   pub is-spliced :
       (opened : Bool) (count : ℕ) (entries : List Record) → opened ≡ p .opened → count ≡ m .first + 1 + (length (recordsIn p) - m .last) → entries ≡ written p m (changedUpTo (length (recordsIn p)) m)

@@ -74,6 +74,6 @@ commandHolds c =
 unfoldable pub holds : State → Bool
 holds s = all commandHolds (s .commands)
 
--- What the types of the code give of every state: 8 commands of 64 record entries.
+-- What words give of every state that they stand for: 8 commands of 64 record entries.
 abbrev pub hasShape : State → Bool
 hasShape s = eqb (length (s .commands)) commandLimit && all (λ c. eqb (length (c .records)) recordLimit) (s .commands)

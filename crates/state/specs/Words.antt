@@ -1,5 +1,5 @@
 -- The state that the words of a lent array stand for. Every array of 1,032 words stands for one state, and no two for the same
--- (`state-one` in `words`), so that nothing is lost between the two.
+-- (`StateOne` in `words`), so that nothing is lost between the two; that an array keeps its length is in its type.
 use Prim.Native.Nat.{ℕ, _+_, _*_, _-_}
 use mathlib.Core.List.{List, map}
 use lib.Dec.{ltb}

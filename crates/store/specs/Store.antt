@@ -13,7 +13,7 @@ use Rattle.state.specs.State.{State}
 abbrev pub partStart : ℕ → ℕ
 partStart c = heldLimit * c
 
--- where packed byte k of command c stands: the held bytes are side by side at the front of its part
+-- where packed byte k of command c stands: the held bytes are side by side at the front of its part, whatever the state is
 abbrev pub location : State → ℕ → ℕ → ℕ
 location s c k = partStart c + k
 

@@ -7,10 +7,9 @@ use mathlib.Core.Logic.{_≢_, _⊎_, inl, inr, ⊎-elim}
 use mathlib.Core.List.{List, [], _++_, map, append-nil}
 use mathlib.Core.Bool.{Bool, true, false, cond}
 use lib.Dec.{ltb, eqb}
-use lib.ListN.{length, take, drop, getD, set, length-map, length-take, length-drop, length-set, take-append-drop, drop-of-length-le, List·getD-eq-default}
-use lib.Seq.{take-all, paste, paste-zero, getD-take, getD-drop, getD-set-same, getD-set-other, ext-getD}
+use lib.ListN.{length, take, drop, getD, set, length-map, length-take, length-drop, length-set, take-append-drop, List·getD-eq-default}
+use lib.Seq.{getD-take, getD-drop, getD-set-same, getD-set-other, ext-getD}
 use borrow.Author.Tests.{eq-eqb, ne-eqb, lt-ltb, ltb-true, ltb-false, eqb-true, eqb-false}
-use Rattle.octets.proofs.Overwrite.{paste-more}
 use Rattle.state.specs.declared.Record.{Record}
 use Rattle.state.specs.State.{CommandState, noRecord, recordsIn}
 use Rattle.state.specs.declared.Meeting.{Meeting}
@@ -38,15 +37,15 @@ abbrev pub stored : List ℕ → ℕ → Record → List ℕ
 stored ws k r = set (set ws (2 * k + 1) (r .start)) (2 * k + 1 + 1) (r .len)
 
 module _ (ws : List ℕ) (k : ℕ) (r : Record) where
-  pub stored-size : length (stored ws k r) ≡ length ws
+  stored-size : length (stored ws k r) ≡ length ws
   stored-size = simp length-set
 
-  pub stored-head : getD (stored ws k r) 0 0 ≡ getD ws 0 0
+  stored-head : getD (stored ws k r) 0 0 ≡ getD ws 0 0
   stored-head =
       getD-set-other (set ws (2 * k + 1) (r .start)) (2 * k + 1 + 1) 0 (r .len) 0 (omega arith)
       ∙ getD-set-other ws (2 * k + 1) 0 (r .start) 0 (omega arith)
 
-  pub stored-same : 2 * k + 1 + 1 < length ws → recordAt (stored ws k r) k ≡ r
+  stored-same : 2 * k + 1 + 1 < length ws → recordAt (stored ws k r) k ≡ r
   stored-same h = λ i. record { start = a i; len = b i }
     where
       a : getD (stored ws k r) (2 * k + 1) 0 ≡ r .start
@@ -72,7 +71,7 @@ module _ (ws : List ℕ) (k : ℕ) (r : Record) where
 
 -- two lists that are alike up to a place, and from a place on
 module _ (n : ℕ) (xs ys : List Record) (sizes : length xs ≡ length ys) where
-  pub take-alike : ((j : ℕ) → j < n → j < length xs → getD xs j noRecord ≡ getD ys j noRecord) → take n xs ≡ take n ys
+  take-alike : ((j : ℕ) → j < n → j < length xs → getD xs j noRecord ≡ getD ys j noRecord) → take n xs ≡ take n ys
   take-alike same = ext-getD noRecord (take n xs) (take n ys) (simp (length-take, sizes)) alike
     where
       alike : (j : ℕ) → j < length (take n xs) → getD (take n xs) j noRecord ≡ getD (take n ys) j noRecord
@@ -80,7 +79,7 @@ module _ (n : ℕ) (xs ys : List Record) (sizes : length xs ≡ length ys) where
           let near : j < n = omega (arith, length-take n xs) in
           getD-take n xs j noRecord near ∙ same j near (omega (arith, length-take n xs)) ∙ sym (getD-take n ys j noRecord near)
 
-  pub drop-alike : ((j : ℕ) → n ≤ j → j < length xs → getD xs j noRecord ≡ getD ys j noRecord) → drop n xs ≡ drop n ys
+  drop-alike : ((j : ℕ) → n ≤ j → j < length xs → getD xs j noRecord ≡ getD ys j noRecord) → drop n xs ≡ drop n ys
   drop-alike same = ext-getD noRecord (drop n xs) (drop n ys) (simp (length-drop, sizes)) alike
     where
       alike : (j : ℕ) → j < length (drop n xs) → getD (drop n xs) j noRecord ≡ getD (drop n ys) j noRecord
@@ -96,7 +95,7 @@ module _ (ws next : List ℕ) (m : Meeting) where
   abbrev end : ℕ
   end = changedUpTo (length (recordsIn p)) m
 
-  pub spliced-words :
+  spliced-words :
       p .opened ≡ true → getD next 0 0 ≡ m .first + 1 + (length (recordsIn p) - m .last) + 1
       → ((j : ℕ) → j < end → j < recordLimit → recordAt next j ≡ entryAfter (entriesIn ws) m j)
       → ((j : ℕ) → end ≤ j → j < recordLimit → recordAt next j ≡ recordAt ws j)
@@ -131,7 +130,7 @@ entry-or-none ws i = go (ltb i recordLimit) refl
 
 -- the first word
 module _ (ws : List ℕ) (x : ℕ) where
-  pub headed : (j : ℕ) → recordAt (set ws 0 x) j ≡ recordAt ws j
+  headed : (j : ℕ) → recordAt (set ws 0 x) j ≡ recordAt ws j
   headed j = λ i. record { start = a i; len = b i }
     where
       a : getD (set ws 0 x) (2 * j + 1) 0 ≡ getD ws (2 * j + 1) 0
@@ -245,36 +244,3 @@ module _ (ws mid next : List ℕ) (m : Meeting) (opened : commandIn ws .opened �
       let place : m .last + (j - suc (m .first)) ≡ m .last + (j - (m .first + 1)) = omega arith in
       d .moved j (omega arith) (omega arith) ∙ entry-or-none ws (m .last + (j - (m .first + 1))) ∙ rw place refl)
       (λ j h. (omega arith, d .above j (omega arith)))
-
--- for the loops of a copy: the entries up to i are there
-pub load-none : (c : CommandState) (ws : List ℕ) → c .records ≡ paste (c .records) 0 (entriesIn ws) 0
-load-none c ws = paste-zero (c .records) 0 (entriesIn ws)
-
-pub load-more : (entries₀ entries : List Record) (ws : List ℕ) (i : ℕ) (r : Record) → length entries₀ ≡ recordLimit → i < recordLimit → entries ≡ paste entries₀ 0 (entriesIn ws) i → r ≡ recordAt ws i
-    → set entries i r ≡ paste entries₀ 0 (entriesIn ws) (i + 1)
-load-more entries₀ entries ws i r size h e is =
-    ap₂ (λ (l : List Record) (t : Record). set l i t) e (is ∙ sym (entry-at ws i h)) ∙ paste-more entries₀ (entriesIn ws) i noRecord (omega arith) (omega (arith, entries-size ws))
-
-pub load-all : (entries₀ : List Record) (ws : List ℕ) → length entries₀ ≡ recordLimit → paste entries₀ 0 (entriesIn ws) recordLimit ≡ entriesIn ws
-load-all entries₀ ws size =
-    rw (take-all recordLimit (entriesIn ws) (omega (arith, entries-size ws)), drop-of-length-le entries₀ {i = 0 + recordLimit} (omega arith)) (append-nil (entriesIn ws))
-
-pub saved : (words : List ℕ) (c : CommandState) → length (c .records) ≡ recordLimit → c .opened ≡ true → getD words 0 0 ≡ c .count + 1 → ((j : ℕ) → j < recordLimit → recordAt words j ≡ getD (c .records) j noRecord) → commandIn words ≡ c
-saved words c size opened head same = λ i. record { opened = a i; count = b i; records = e i }
-  where
-    a : ltb 0 (getD words 0 0) ≡ c .opened
-    a = lt-ltb 0 (getD words 0 0) (omega arith) ∙ sym opened
-
-    b : getD words 0 0 - 1 ≡ c .count
-    b = omega arith
-
-    e : entriesIn words ≡ c .records
-    e = ext-getD noRecord (entriesIn words) (c .records) (entries-size words ∙ sym size) (λ j h. let few : j < recordLimit = omega (arith, entries-size words) in entry-at words j few ∙ same j few)
-
-pub save-more : (words : List ℕ) (c : CommandState) (i : ℕ) → length words ≡ commandWords → i < recordLimit → ((j : ℕ) → j < i → recordAt words j ≡ getD (c .records) j noRecord)
-    → (r : Record) → r ≡ getD (c .records) i noRecord → (j : ℕ) → j < i + 1 → recordAt (stored words i r) j ≡ getD (c .records) j noRecord
-save-more words c i whole few same r is j h = go (eqb j i) refl
-  where
-    go : (b : Bool) → eqb j i ≡ b → recordAt (stored words i r) j ≡ getD (c .records) j noRecord
-    go true e = let here : j ≡ i = eqb-true j i e in rw here (stored-same words i r (omega arith) ∙ is)
-    go false e = let other : j ≢ i = eqb-false j i e in stored-other words i r j other ∙ same j (omega arith)

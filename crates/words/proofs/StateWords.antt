@@ -12,7 +12,7 @@ use lib.Seq.{getD-take, getD-drop, getD-set-same, getD-set-other, ext-getD, take
 use borrow.Author.Tests.{eq-eqb, eqb-true, eqb-false, ltb-true, ltb-false}
 use Rattle.octets.specs.Lists.{overwrite, all}
 use Rattle.octets.proofs.Lists.{both}
-use Rattle.octets.proofs.Overwrite.{overwrite-below, overwrite-above, overwrite-mid, length-overwrite, part-beside}
+use Rattle.octets.proofs.Overwrite.{overwrite-below, overwrite-above, overwrite-mid, part-beside}
 use Rattle.state.specs.State.{CommandState, closed, commandOf, withCommand, hasShape}
 use Rattle.state.specs.Limits.{commandLimit, recordLimit, commandWords, stateWords}
 use Rattle.state.specs.Records.{span}
@@ -40,14 +40,14 @@ module _ (words ws : List ℕ) (c : ℕ) (whole : length words ≡ stateWords) (
   next = overwrite words (129 * c) ws
 
   -- the same command's words, and another's
-  pub words-same : wordsOf next c ≡ ws
+  words-same : wordsOf next c ≡ ws
   words-same =
       let front : length (take (129 * c) words) ≡ 129 * c = length-take-le (129 * c) words (omega arith) in
       let rest = drop (129 * c + length ws) words in
       let behind : drop (129 * c) next ≡ ws ++ rest = rw append-assoc (drop-at (take (129 * c) words) (ws ++ rest) (129 * c) front) in
       rw behind (take-at ws rest 129 size)
 
-  pub words-other : (d : ℕ) → d < commandLimit → d ≢ c → wordsOf next d ≡ wordsOf words d
+  words-other : (d : ℕ) → d < commandLimit → d ≢ c → wordsOf next d ≡ wordsOf words d
   words-other d k ne = part-beside words ws (129 * c) (omega arith) (129 * d) 129 same
     where
       same : (i : ℕ) → i < 129 → getD next (129 * d + i) 0 ≡ getD words (129 * d + i) 0
@@ -58,7 +58,7 @@ module _ (words ws : List ℕ) (c : ℕ) (whole : length words ≡ stateWords) (
           go false e = let ge = ltb-false d c e in overwrite-above words ws (129 * c) (omega arith) (129 * d + i) 0 (omega arith)
 
   -- the state with this command
-  pub state-with : stateOf next ≡ withCommand (stateOf words) c (commandIn ws)
+  state-with : stateOf next ≡ withCommand (stateOf words) c (commandIn ws)
   unfolding stateOf
   state-with = λ i. record { commands = all i }
     where
@@ -116,9 +116,6 @@ module _ (words : List ℕ) (c : ℕ) (whole : length words ≡ stateWords) (h :
   module _ (ws : List ℕ) (size : length ws ≡ commandWords) where
     returned-is : returned words c ws ≡ overwrite words (129 * c) ws
     returned-is = ap (λ (n : ℕ). take (129 * c) words ++ (ws ++ drop n (drop (129 * c) words))) width ∙ overwrite-mid words ws (129 * c) 129 size
-
-    pub returned-size : length (returned words c ws) ≡ stateWords
-    returned-size = ap length returned-is ∙ length-overwrite words ws (129 * c) (omega arith) ∙ whole
 
     pub returned-state : stateOf (returned words c ws) ≡ withCommand (stateOf words) c (commandIn ws)
     returned-state = ap stateOf returned-is ∙ state-with words ws c whole size h

@@ -17,8 +17,8 @@ pub fn wide(x: u16) -> usize
     x as usize
 }
 
-// The same, half as wide, for a loop that is to look at several words in one instruction.
-pub(crate) fn half_wide(x: u16) -> u32
+// The same in 32 bits, for a loop that is to look at several words in one instruction.
+pub(crate) fn wide32(x: u16) -> u32
     ensures { λ r. ⌜ (r ≡ x) × (r < 65536) ⌝ }
 {
     x as u32

@@ -11,9 +11,9 @@ ghost use Rattle.state.specs.State.{recordsIn, ascending, isZero, commandHolds,
 ghost use Rattle.state.specs.Words.{entriesIn, commandIn, stateOf};
 ghost use Rattle.words.specs.Holds.{allZero, faultOf};
 use crate::entries::entry;
-use crate::entries::half_wide;
 use crate::entries::used;
 use crate::entries::wide;
+use crate::entries::wide32;
 use state::CacheState;
 
 // One if a record starts before the end of the one before it, or is empty.
@@ -43,8 +43,8 @@ fn records_hold(words: &[u16]) -> bool
     let mut i = 0;
     while i < n {
         let r = entry(words, i);
-        let start = half_wide(r.start);
-        let len = half_wide(r.len);
+        let start = wide32(r.start);
+        let len = wide32(r.len);
         faults = faults + fault(low, start, len);
         low = start + len;
         sum = sum + len;

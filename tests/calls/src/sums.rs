@@ -55,9 +55,16 @@ impl Sums {
         (self.file.complaints.len() + self.random.complaints.len()) as u64
     }
 
-    /// Calls that went wrong, and answers that the file did not reach.
+    /// Answers that no call can give, of both.
+    fn impossible(&self) -> Vec<String> {
+        let tallies = [&self.file.tally, &self.random.tally];
+        tallies.into_iter().flat_map(Tally::impossible).collect()
+    }
+
+    /// Calls that went wrong, answers that the file did not reach, and answers
+    /// that no call can give.
     pub fn failed(&self) -> u64 {
-        self.wrong() + self.file.tally.missing().len() as u64
+        self.wrong() + (self.file.tally.missing().len() + self.impossible().len()) as u64
     }
 
     /// Calls that went right.
@@ -78,6 +85,9 @@ impl fmt::Display for Sums {
         }
         for missing in self.file.tally.missing() {
             writeln!(out, "never reached by the file: {missing}")?;
+        }
+        for impossible in self.impossible() {
+            writeln!(out, "an answer that no call can give: {impossible}")?;
         }
         writeln!(out, "{} passed, {} failed", self.passed(), self.failed())
     }

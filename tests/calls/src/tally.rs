@@ -48,18 +48,37 @@ impl Tally {
 
     /// What calls can answer and did not, in words.
     pub fn missing(&self) -> Vec<String> {
-        let statuses = |(name, numbers): &(&'static str, &'static [u64])| {
-            let name = *name;
-            [&[0], *numbers]
-                .concat()
-                .into_iter()
-                .map(move |number| (name, number))
-        };
-        let all = CAN_APPLY.iter().flat_map(statuses);
+        let all = possible().into_iter();
         all.filter(|key| !self.counts.contains_key(key))
-            .map(|(name, number)| format!("{name} with status {number}"))
+            .map(in_words)
             .collect()
     }
+
+    /// What calls answered and cannot, in words.
+    pub fn impossible(&self) -> Vec<String> {
+        let possible = possible();
+        let listed = |name| CAN_APPLY.iter().any(|(call, _)| *call == name);
+        let seen = self.counts.keys().copied();
+        seen.filter(|key| listed(key.0) && !possible.contains(key))
+            .map(in_words)
+            .collect()
+    }
+}
+
+/// Each call with each status that it can give.
+fn possible() -> Vec<(&'static str, u64)> {
+    let statuses = |(name, numbers): &(&'static str, &'static [u64])| {
+        let name = *name;
+        [&[0], *numbers]
+            .concat()
+            .into_iter()
+            .map(move |number| (name, number))
+    };
+    CAN_APPLY.iter().flat_map(statuses).collect()
+}
+
+fn in_words((name, number): (&str, u64)) -> String {
+    format!("{name} with status {number}")
 }
 
 impl fmt::Display for Tally {

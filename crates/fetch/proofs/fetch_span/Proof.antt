@@ -9,7 +9,7 @@ use Rattle.state.specs.Words.{commandIn}
 use Rattle.fetch.specs.declared.plan.Finding.{Finding}
 use Rattle.fetch.specs.Plan.{Plans}
 use Rattle.words.proofs.StateWords.{lent}
-use Rattle.fetch.proofs.Lending.{Lent, Room, admitted, bytes-refused, records-refused, room}
+use Rattle.fetch.proofs.Lending.{Lent, SpanRoom, admitted, bytes-refused, records-refused, room}
 use Rattle.fetch.proofs.fetch_span.Statement.{statement}
 use Rattle.fetch.proofs.fetch_span.Tie as tie
 
@@ -60,7 +60,7 @@ module _ (c : tie.After-plan) where
   abbrev behind : ℕ
   behind = c .plan .given .0 .1 .1 .1 .0
 
-  R : Room (now (s .args .state)) (now (s .args .store)) (now (s .args .window)) (now (s .args .destination)) (s .args .command) (s .args .address) (s .args .size) m fresh place behind
+  R : SpanRoom (now (s .args .state)) (now (s .args .store)) (now (s .args .window)) (now (s .args .destination)) (s .args .command) (s .args .address) (s .args .size) m fresh place behind
   R =
       room (now (s .args .state)) (now (s .args .store)) (now (s .args .window)) (now (s .args .destination)) _ _ _ (s .pre .0) (s .pre .1) (s .pre .2) m fresh place behind
       (subst (Found (c .before .before)) (c .plan .given .1) (c .before .before .planned .ensures))

@@ -28,7 +28,10 @@ add-old c =
     let e = c .before .before .before .before in
     let fits = e .pre .1 in
     let rs = recordsIn (commandIn (now (e .args .words))) in
-    omega (arith, filling-room rs (now (e .args .part)) (e .args .base) (now (e .args .source)) (e .args .m) _ (fits .cut) (fits .room) _ _ _ _ _ (filling-start rs (now (e .args .part)) (e .args .base) (now (e .args .source)) (e .args .m) (e .args .fresh) (fits .cut) (fits .room)))
+    let part = now (e .args .part) in
+    let source = now (e .args .source) in
+    let begun = filling-start rs part (e .args .base) source (e .args .m) (e .args .fresh) (fits .cut) (fits .room) in
+    omega (arith, filling-room rs part (e .args .base) source (e .args .m) _ (fits .cut) (fits .room) _ _ _ _ _ begun)
 
 loop-holds : tie.Need-loop-holds Inv-loop μ-loop
 loop-holds c =

@@ -33,13 +33,17 @@ returns c =
     let low = begun .start .result in
     let rs = recordsIn (commandIn (now (e .args .words))) in
     let store = now (e .args .store) in
+    let c′ = e .args .command in
+    let m = e .args .m in
     let base = e .args .base in
     let source = now (e .args .source) in
     let width : low + 4096 - low ≡ heldLimit = omega arith in
     rw (done .hold .ensures, width)
-    (subst (λ (k : ℕ). take k store ++ (repacked rs (e .args .m) (part store k heldLimit) base source ++ drop heldLimit (drop k store)) ≡ packed store (e .args .command) (replaced rs (e .args .m)) (sees rs (λ k. partStart (e .args .command) + k) store (from base source)))
+    (subst (λ (k : ℕ).
+    take k store ++ (repacked rs m (part store k heldLimit) base source ++ drop heldLimit (drop k store))
+    ≡ packed store c′ (replaced rs m) (sees rs (λ k. partStart c′ + k) store (from base source)))
     (sym (begun .start .ensures .0))
-    (repacked-store rs (e .args .m) (e .args .fresh) (e .args .command) store base source (e .pre .3 .cut) (e .pre .3 .room) (omega arith)))
+    (repacked-store rs m (e .args .fresh) c′ store base source (e .pre .3 .cut) (e .pre .3 .room) (omega arith)))
 
 pub hold-spec : {M : Type 1} → statement M
 hold-spec =

@@ -41,8 +41,8 @@ loop-again c =
     let p = commandIn words in
     let i = l .loop .i in
     let is = c .before .before .before .entry .ensures ∙ sym (entry-at words i (omega arith)) in
-    let starts = c .before .before .half-wide .ensures .0 ∙ ap (λ (r : Record). r .start) is in
-    let lens = c .before .half-wide2 .ensures .0 ∙ ap (λ (r : Record). r .len) is in
+    let starts = c .before .before .wide32 .ensures .0 ∙ ap (λ (r : Record). r .start) is in
+    let lens = c .before .wide322 .ensures .0 ∙ ap (λ (r : Record). r .len) is in
     let faults = c .fault .ensures .0 ∙ ap₂ (λ (s n : ℕ). faultOf (l .loop .low) s n) starts lens in
     (rw (faults, starts, lens) (record-walked p i (l .loop .faults) (l .loop .low) (l .loop .sum) (omega arith) (l .loop .inv .0)), omega arith, omega arith, omega arith, omega arith)
 

@@ -23,7 +23,11 @@ loop-again c =
     let l = c .before .before .before .before .before .before .before in
     let e = l .before .before in
     let put = c .before .before .put in
-    let step = down-step (now (e .args .words)) (l .loop .words) (e .args .to) (e .args .from) (l .loop .k) (l .loop .at) (c .before .before .before .before .entry-or-none .result) (omega arith) (omega arith) (omega arith) (omega arith) (omega arith) (l .loop .inv .4) (c .before .before .before .before .entry-or-none .ensures) in
+    let read = c .before .before .before .before .entry-or-none in
+    let step =
+    down-step (now (e .args .words)) (l .loop .words) (e .args .to) (e .args .from) (l .loop .k) (l .loop .at) (read .result)
+    (omega arith) (omega arith) (omega arith) (omega arith) (omega arith) (l .loop .inv .4) (read .ensures)
+    in
     (omega arith, omega arith, omega arith, rw (put .ensures) (simp length-set (omega arith)), rw (put .ensures) step)
 
 returns : tie.Need-returns Inv-loop μ-loop

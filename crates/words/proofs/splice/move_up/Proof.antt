@@ -23,7 +23,11 @@ loop-again c =
     let l = c .before .before .before .before .before .before .before in
     let e = l .before .before in
     let put = c .before .before .put in
-    let step = up-step (now (e .args .words)) (l .loop .words) (l .loop .k) (e .args .used) (c .before .before .before .before .entry .result) (omega arith) (omega arith) (omega arith) (omega arith) (l .loop .inv .3) (c .before .before .before .before .entry .ensures) in
+    let read = c .before .before .before .before .entry in
+    let step =
+    up-step (now (e .args .words)) (l .loop .words) (l .loop .k) (e .args .used) (read .result)
+    (omega arith) (omega arith) (omega arith) (omega arith) (l .loop .inv .3) (read .ensures)
+    in
     (omega arith, omega arith, rw (put .ensures) (simp length-set (omega arith)), rw (put .ensures) step)
 
 returns : tie.Need-returns Inv-loop μ-loop
