@@ -1,0 +1,337 @@
+/*
+ * doorclover.h - a fetch cache for controller firmware.
+ *
+ * Firmware reads a host's descriptor once to check it and once to use it, and the host may change
+ * it in between. This cache stands between the two: for each command it reads a host byte once,
+ * keeps it, and gives the same byte again until the command ends. The functions are proved in the
+ * language Rattle to do what the agreed scope says; this header says it in short.
+ *
+ * Words
+ *   window       host memory that is lent to a call: bytes, addressed from 0
+ *   command      one of the numbers 0 to 7, opened by begin and closed by end
+ *   span         the bytes of the window from an address on, as many as a length says
+ *   record       a span whose bytes an open command holds
+ *   state        which commands are open, and the records of each
+ *   store        the held bytes; command c has the 4,096 from 4,096 * c on
+ *   destination  where a fetch delivers
+ *
+ * What every call promises
+ *   - It is done or refused, never half done. Done: the status is DOORCLOVER_OK, and all that is
+ *     said of the call has happened. Refused: the status is the lowest number that applies, the
+ *     other members of the reply are 0, and no byte of state, store, window, destination or output
+ *     has changed. (A journal runs many calls; this holds for each of them.)
+ *   - Numbers may have any value. What is out of range is refused, and address + length is judged
+ *     as the true sum, which does not wrap.
+ *   - A state may hold any words and a store any bytes. Words that do not hold together are refused
+ *     with DOORCLOVER_STATE_BROKEN by every call that looks at them.
+ *   - No call reads or writes outside the lengths it is given, and each returns.
+ *   - A call changes nothing that another command holds.
+ *   - Nothing is allocated, and there are no globals, no thread-local data and no start-up code. All
+ *     memory is the caller's. The archive needs memcpy and memset from the link, and nothing else.
+ *
+ * What the caller answers for, since C cannot check it
+ *   - Each pointer is good for the length beside it, and a state for all its words. A null pointer
+ *     may stand where the length is 0, and only there; a state is never null.
+ *   - No two arguments of a call share a byte.
+ *   - A state is aligned for uint16_t. Bytes may lie anywhere.
+ *   - Until a call returns, nobody else (another core, an interrupt, a DMA engine) writes what is lent
+ *     to it; of the window see below. Two calls on one state or one store must not overlap in time;
+ *     calls on different ones may.
+ *   - Between calls nobody but these functions writes state and store, and the two stay together: a
+ *     replayed byte is the byte in the store. If somebody does write them, the calls stay within
+ *     bounds and do what is said of them for the words and bytes that they find.
+ *
+ * The window, which the host writes
+ *   - Between two calls it may change in any way: that is what the cache is for.
+ *   - During a call: the proof speaks of the window's bytes as they stand at the call. While somebody
+ *     writes the window during a call, nothing is promised by proof of the values of that call, since
+ *     a compiled load may be repeated. Where the host cannot be held off, copy the span into memory
+ *     that it cannot write, at the same address of a window of your own, and lend that window.
+ *
+ * Stack, in bytes, arguments on it included and the return address not. It was measured on a painted
+ * stack, and is not proved. What your memcpy and memset take comes on top.
+ *     fresh   0      begin 128      host write  48      frame read   168
+ *     show   96      fetch 504      own write  224      frame write   48
+ *                    end   176                          journal     3400
+ * DOORCLOVER_STACK and DOORCLOVER_JOURNAL_STACK are these with some room.
+ *
+ * Target: x86-64 with the System V calling convention, ELF. The code uses SSE2 registers and the red
+ * zone of 128 bytes below the stack pointer, so that an interrupt handler must leave both as they
+ * are. It is independent of its position and makes no system calls.
+ *
+ * The header is for C11 and C++11.
+ */
+#ifndef DOORCLOVER_H
+#define DOORCLOVER_H
+
+#include <stddef.h>
+#include <stdint.h>
+
+#if defined(__GNUC__)
+#define DOORCLOVER_USE_REPLY __attribute__((warn_unused_result))
+#else
+#define DOORCLOVER_USE_REPLY
+#endif
+
+#ifdef __cplusplus
+extern "C" {
+#endif
+
+/* The number of this interface; doorclover_release() gives that of the archive. */
+#define DOORCLOVER_RELEASE 1u
+
+/* Limits. */
+#define DOORCLOVER_COMMANDS 8u      /* commands are 0 to 7 */
+#define DOORCLOVER_RECORDS  64u     /* the most records of a command */
+#define DOORCLOVER_HELD     4096u   /* the most distinct bytes that a command holds */
+#define DOORCLOVER_TRANSFER 4096u   /* the most bytes of one fetch or write */
+#define DOORCLOVER_WINDOW   65536u  /* the longest window, in bytes */
+#define DOORCLOVER_STORE    32768u  /* the one length of the store, in bytes */
+
+#define DOORCLOVER_COMMAND_WORDS 129u   /* words of a command: 1 + 2 * 64 */
+#define DOORCLOVER_STATE_WORDS   1032u  /* words of a state: 8 * 129 */
+#define DOORCLOVER_FRAME_HEAD    5u     /* bytes of a frame before its data */
+
+/* Stack that is enough for any call but the journal's, and for the journal's. */
+#define DOORCLOVER_STACK         1024u
+#define DOORCLOVER_JOURNAL_STACK 4096u
+
+/* 0, or why a call was refused. The width is fixed here, since that of a C enum is not. */
+typedef uint32_t doorclover_status;
+enum {
+    DOORCLOVER_OK = 0,
+
+    /* because of the input */
+    DOORCLOVER_FRAME_TOO_SHORT  = 1,   /* fewer than 5 bytes for a frame */
+    DOORCLOVER_UNKNOWN_KIND     = 2,   /* kind 5 or above */
+    DOORCLOVER_FIELD_NOT_ZERO   = 3,   /* a field or a spare bit of a frame that must be zero */
+    DOORCLOVER_LENGTH_TOO_LONG  = 4,   /* length above 4,096 */
+    DOORCLOVER_DATA_MISMATCH    = 5,   /* a frame's data are not as many as its length says */
+    DOORCLOVER_COMMAND_TOO_HIGH = 6,   /* command above 7 */
+    DOORCLOVER_WINDOW_TOO_LONG  = 7,   /* window longer than 65,536 */
+    DOORCLOVER_STORE_WRONG_SIZE = 8,   /* store not 32,768 bytes */
+    DOORCLOVER_OUTSIDE_WINDOW   = 9,   /* address + length above the window's length */
+    DOORCLOVER_BUFFER_TOO_SHORT = 10,  /* destination or output too short */
+    DOORCLOVER_ADDRESS_TOO_HIGH = 11,  /* frame writer: address above 65,535 */
+
+    /* because of the state */
+    DOORCLOVER_STATE_BROKEN         = 20,  /* the words do not hold together */
+    DOORCLOVER_COMMAND_NOT_OPEN     = 21,
+    DOORCLOVER_COMMAND_ALREADY_OPEN = 22,
+    DOORCLOVER_TOO_MANY_BYTES       = 23,  /* the command would hold more than 4,096 bytes */
+    DOORCLOVER_TOO_MANY_RECORDS     = 24,  /* it would have more than 64 records after joining */
+    DOORCLOVER_NO_SUCH_RECORD       = 25   /* show: the index is not below the number of records */
+};
+
+/* The kinds of a step frame. */
+enum {
+    DOORCLOVER_KIND_BEGIN      = 0,
+    DOORCLOVER_KIND_FETCH      = 1,
+    DOORCLOVER_KIND_END        = 2,
+    DOORCLOVER_KIND_HOST_WRITE = 3,
+    DOORCLOVER_KIND_OWN_WRITE  = 4
+};
+
+/*
+ * The state. Command c has the 129 words from words[129 * c] on:
+ *
+ *     word 0            0 if the command is closed, else 1 + the number of its records
+ *     word 1 + 2 * i    where record i starts
+ *     word 2 + 2 * i    how many bytes it has
+ *
+ * The words hold together if, for each command, there are at most 64 records; they stand by ascending
+ * address, have 1 byte or more, share none and end at 65,536 or below; they have at most 4,096 bytes
+ * in all; and the words behind them are zero (all 128 of a closed command).
+ *
+ * All zero is the fresh state, so that a static one needs no call. There is no padding: a state may
+ * be compared and checksummed byte for byte, and kept and taken up again together with its store.
+ */
+typedef struct doorclover_state {
+    uint16_t words[DOORCLOVER_STATE_WORDS];
+} doorclover_state;
+
+/* Replies. Of a refused call all members but the status are 0. */
+typedef struct doorclover_begun {
+    doorclover_status status;
+} doorclover_begun;
+
+typedef struct doorclover_fetched {
+    doorclover_status status;
+    size_t fresh;     /* bytes of the span that were read from the window, and are held now */
+    size_t replayed;  /* bytes of the span that were held before */
+} doorclover_fetched;
+
+typedef struct doorclover_ended {
+    doorclover_status status;
+    size_t records;  /* how many records the command had */
+    size_t bytes;    /* how many distinct bytes it held */
+} doorclover_ended;
+
+typedef struct doorclover_written {
+    doorclover_status status;
+    size_t bytes;  /* how many were written */
+} doorclover_written;
+
+typedef struct doorclover_shown {
+    doorclover_status status;
+    uint16_t start;
+    uint16_t length;
+} doorclover_shown;
+
+typedef struct doorclover_step {
+    doorclover_status status;
+    size_t kind;
+    size_t command;
+    size_t address;
+    size_t length;
+    size_t taken;  /* bytes of the frame; its data are frame[5] up to frame[taken - 1] */
+} doorclover_step;
+
+typedef struct doorclover_framed {
+    doorclover_status status;
+    size_t length;  /* bytes of the frame */
+} doorclover_framed;
+
+/* A journal's run has no status. */
+typedef struct doorclover_replayed {
+    size_t written;  /* bytes of the log that are in the output */
+    size_t carried;  /* frames that were carried out */
+    size_t refused;  /* frames that were read and whose call was refused */
+    uint32_t early;  /* 1 if an unreadable frame ended the run, else 0 */
+} doorclover_replayed;
+
+/* The DOORCLOVER_RELEASE of the archive. */
+uint32_t doorclover_release(void);
+
+/* Makes the fresh state: every command is closed. A store needs no clearing, begin does that. */
+void doorclover_fresh(doorclover_state *state);
+
+/*
+ * Opens a closed command with no records, and zeroes its part of the store.
+ * Refused with 6, 8, 20, 22.
+ */
+DOORCLOVER_USE_REPLY doorclover_begun doorclover_begin(
+    doorclover_state *state,
+    uint8_t *store, size_t store_size,
+    size_t command);
+
+/*
+ * Delivers a span into the front of the destination. A byte that the command holds comes from the
+ * store. Any other is read from the window, and is held from now on. The records that share a byte
+ * with the span become one with it; records that only touch stay two. The destination behind the
+ * span does not change. A length of 0 changes nothing. A span that reaches past the window of this
+ * call is refused, even where it is held.
+ * Refused with 4, 6 to 10, 20, 21, 23, 24.
+ */
+DOORCLOVER_USE_REPLY doorclover_fetched doorclover_fetch(
+    doorclover_state *state,
+    uint8_t *store, size_t store_size,
+    const uint8_t *window, size_t window_size,
+    uint8_t *destination, size_t destination_size,
+    size_t command, size_t address, size_t length);
+
+/*
+ * Closes an open command, drops its records, and zeroes its part of the store.
+ * Refused with 6, 8, 20, 21.
+ */
+DOORCLOVER_USE_REPLY doorclover_ended doorclover_end(
+    doorclover_state *state,
+    uint8_t *store, size_t store_size,
+    size_t command);
+
+/*
+ * Copies bytes into the window, as a host does. No state is asked.
+ * Refused with 4, 7, 9.
+ */
+DOORCLOVER_USE_REPLY doorclover_written doorclover_host_write(
+    uint8_t *window, size_t window_size,
+    size_t address,
+    const uint8_t *bytes, size_t size);
+
+/*
+ * The same by an open command. What it holds stays as it is: a later fetch of the same span gives the
+ * held bytes and not those written. State and store are lent as they are to a fetch, and no byte of
+ * them changes; the store is not looked at, and may have any length.
+ * Refused with 4, 6, 7, 9, 20, 21.
+ */
+DOORCLOVER_USE_REPLY doorclover_written doorclover_own_write(
+    doorclover_state *state,
+    uint8_t *store, size_t store_size,
+    uint8_t *window, size_t window_size,
+    size_t command, size_t address,
+    const uint8_t *bytes, size_t size);
+
+/*
+ * Gives a record of an open command, counted from 0.
+ * Refused with 6, 20, 21, 25.
+ */
+DOORCLOVER_USE_REPLY doorclover_shown doorclover_show(
+    const doorclover_state *state, size_t command, size_t index);
+
+/*
+ * Step frames: a call in 5 bytes, most significant bit first. Kind 3 bits, command 3, address 16,
+ * length 13, and 5 spare bits that are zero. Begin and end have address and length 0, a host write
+ * has command 0. The data of the two writes, as many bytes as the length, follow the 5.
+ */
+
+/*
+ * Reads the frame at the front of the bytes; what stands behind it is not looked at.
+ * Refused with 1 to 5.
+ */
+DOORCLOVER_USE_REPLY doorclover_step doorclover_frame_read(const uint8_t *frame, size_t size);
+
+/*
+ * Writes a frame to the front of the output; behind it the output does not change.
+ * Refused with 2 to 6, 10, 11.
+ */
+DOORCLOVER_USE_REPLY doorclover_framed doorclover_frame_write(
+    uint8_t *output, size_t output_size,
+    size_t kind, size_t command, size_t address, size_t length,
+    const uint8_t *data, size_t data_size);
+
+/*
+ * Carries out a journal, frame after frame, from the fresh state, and writes its log to the output: a
+ * line for each frame. A log that does not fit is cut, and the run goes on. An unreadable frame has
+ * the last line and ends the run. Store, window and destination are handed on from frame to frame.
+ */
+DOORCLOVER_USE_REPLY doorclover_replayed doorclover_journal_replay(
+    const uint8_t *journal, size_t journal_size,
+    uint8_t *store, size_t store_size,
+    uint8_t *window, size_t window_size,
+    uint8_t *destination, size_t destination_size,
+    uint8_t *output, size_t output_size);
+
+#ifdef __cplusplus
+}
+#endif
+
+/* The shapes that the archive was built for. */
+#if defined(__cplusplus)
+#define DOORCLOVER_ASSERT(what) static_assert(what, #what)
+#define DOORCLOVER_ALIGN(type) alignof(type)
+#elif defined(__STDC_VERSION__) && __STDC_VERSION__ >= 201112L
+#define DOORCLOVER_ASSERT(what) _Static_assert(what, #what)
+#define DOORCLOVER_ALIGN(type) _Alignof(type)
+#else
+#error "doorclover.h is for C11 and C++11"
+#endif
+
+DOORCLOVER_ASSERT(sizeof(size_t) == 8 && sizeof(void *) == 8);
+DOORCLOVER_ASSERT(DOORCLOVER_COMMAND_WORDS == 1 + 2 * DOORCLOVER_RECORDS);
+DOORCLOVER_ASSERT(DOORCLOVER_STATE_WORDS == DOORCLOVER_COMMANDS * DOORCLOVER_COMMAND_WORDS);
+DOORCLOVER_ASSERT(DOORCLOVER_STORE == DOORCLOVER_COMMANDS * DOORCLOVER_HELD);
+DOORCLOVER_ASSERT(sizeof(doorclover_state) == 2064);
+DOORCLOVER_ASSERT(DOORCLOVER_ALIGN(doorclover_state) == 2);
+DOORCLOVER_ASSERT(sizeof(doorclover_begun) == 4);
+DOORCLOVER_ASSERT(sizeof(doorclover_fetched) == 24 && offsetof(doorclover_fetched, replayed) == 16);
+DOORCLOVER_ASSERT(sizeof(doorclover_ended) == 24 && offsetof(doorclover_ended, bytes) == 16);
+DOORCLOVER_ASSERT(sizeof(doorclover_written) == 16 && offsetof(doorclover_written, bytes) == 8);
+DOORCLOVER_ASSERT(sizeof(doorclover_shown) == 8 && offsetof(doorclover_shown, length) == 6);
+DOORCLOVER_ASSERT(sizeof(doorclover_step) == 48 && offsetof(doorclover_step, taken) == 40);
+DOORCLOVER_ASSERT(sizeof(doorclover_framed) == 16 && offsetof(doorclover_framed, length) == 8);
+DOORCLOVER_ASSERT(sizeof(doorclover_replayed) == 32 && offsetof(doorclover_replayed, early) == 24);
+
+#undef DOORCLOVER_ASSERT
+#undef DOORCLOVER_ALIGN
+
+#endif

@@ -1,0 +1,331 @@
+/* The calls: what they do, and what they refuse. */
+#include "desk.h"
+#include "tests.h"
+
+#include <stdint.h>
+#include <string.h>
+
+static const size_t too_high[] = {8, 9, 129, 65536, SIZE_MAX};
+enum { TOO_HIGH = sizeof too_high / sizeof too_high[0] };
+
+/* The desk with another store, window, destination or bytes. */
+static desk with_store(desk d, lent *l) { d.store = l; return d; }
+static desk with_window(desk d, lent *l) { d.window = l; return d; }
+static desk with_destination(desk d, lent *l) { d.destination = l; return d; }
+static desk with_bytes(desk d, lent *l) { d.bytes = l; return d; }
+
+static void break_words(const desk *d)
+{
+    words_of(d, 7)[128] = 1;
+}
+
+static void mend_words(const desk *d)
+{
+    words_of(d, 7)[128] = 0;
+}
+
+/* Were these the bytes of the host at an address? */
+static int delivered(const desk *d, size_t address, size_t length)
+{
+    for (size_t i = 0; i < length; i++)
+        if (d->destination->bytes[i] != host_byte(address + i))
+            return 0;
+    return 1;
+}
+
+void test_fresh(void)
+{
+    lent *l = lend(sizeof(doorclover_state), 0xff);
+    keep_all();
+    doorclover_fresh((doorclover_state *)(void *)l->bytes);
+    for (size_t i = 0; i < l->size; i++)
+        CHECK(l->bytes[i] == 0);
+    allow(l, 0, l->size);
+    CHECK(all_kept());
+    CHECK(doorclover_release() == DOORCLOVER_RELEASE);
+}
+
+void test_begin(void)
+{
+    desk d = fresh_desk();
+    for (size_t c = 0; c < DOORCLOVER_COMMANDS; c++)
+        begin(&d, c);
+    for (size_t c = 0; c < DOORCLOVER_COMMANDS; c++)
+        CHECK(words_of(&d, c)[0] == 1);
+}
+
+void test_begin_refused(void)
+{
+    desk d = fresh_desk();
+    desk below = with_store(d, lend(DOORCLOVER_STORE - 1, 1));
+    desk above = with_store(d, lend(DOORCLOVER_STORE + 1, 1));
+    desk none = with_store(d, &nothing);
+    begin(&d, 3);
+    begin_refused(&d, DOORCLOVER_COMMAND_ALREADY_OPEN, 3);
+    break_words(&d);
+    begin_refused(&d, DOORCLOVER_STATE_BROKEN, 3);
+    begin_refused(&d, DOORCLOVER_STATE_BROKEN, 4);
+    begin_refused(&below, DOORCLOVER_STORE_WRONG_SIZE, 3);
+    begin_refused(&above, DOORCLOVER_STORE_WRONG_SIZE, 3);
+    begin_refused(&none, DOORCLOVER_STORE_WRONG_SIZE, 3);
+    for (size_t i = 0; i < TOO_HIGH; i++) {
+        begin_refused(&below, DOORCLOVER_COMMAND_TOO_HIGH, too_high[i]);
+        begin_refused(&d, DOORCLOVER_COMMAND_TOO_HIGH, too_high[i]);
+    }
+}
+
+void test_fetch(void)
+{
+    desk d = fresh_desk();
+    begin(&d, 3);
+    fetch(&d, 3, 16, 4, 4, 0);
+    CHECK(delivered(&d, 16, 4));
+    memset(d.window->bytes + 16, 0, 4); /* the host changes what was fetched */
+    fetch(&d, 3, 14, 8, 4, 4);
+    CHECK(delivered(&d, 14, 8));
+    CHECK(memcmp(d.store->bytes + 3 * DOORCLOVER_HELD, d.destination->bytes, 8) == 0);
+    memset(d.window->bytes, 0, 64);
+    fetch(&d, 3, 14, 8, 0, 8);
+    CHECK(delivered(&d, 14, 8));
+    begin(&d, 4); /* another command sees the host's new bytes */
+    fetch(&d, 4, 16, 4, 4, 0);
+    CHECK(memcmp(d.destination->bytes, "\0\0\0\0", 4) == 0);
+    fetch(&d, 4, 16383, 1, 1, 0);
+    CHECK(delivered(&d, 16383, 1));
+    fetch(&d, 4, 16384, 0, 0, 0);
+}
+
+void test_fetch_joins(void)
+{
+    desk d = fresh_desk();
+    begin(&d, 0);
+    fetch(&d, 0, 0, 4, 4, 0);
+    fetch(&d, 0, 4, 4, 4, 0);
+    show(&d, 0, 0, 0, 4); /* they touch, and stay two */
+    show(&d, 0, 1, 4, 4);
+    fetch(&d, 0, 2, 4, 0, 4);
+    show(&d, 0, 0, 0, 8);
+    show_refused(&d, DOORCLOVER_NO_SUCH_RECORD, 0, 1);
+    fetch(&d, 0, 100, 10, 10, 0);
+    fetch(&d, 0, 50, 1, 1, 0);
+    fetch(&d, 0, 7, 100, 91, 9); /* held: 7, 50 and 100 to 106 */
+    CHECK(delivered(&d, 7, 100));
+    show(&d, 0, 0, 0, 110);
+    end(&d, 0, 1, 110);
+}
+
+/* Every fault at once, and then one after the other is mended: the lowest number is given. */
+static void fetch_ladder(desk d)
+{
+    desk e = d;
+    size_t command = 8, address = SIZE_MAX, length = DOORCLOVER_TRANSFER + 1;
+    e.store = lend(DOORCLOVER_STORE - 1, 1);
+    e.window = lend(DOORCLOVER_WINDOW + 1, 2);
+    e.destination = lend(9, 3);
+    break_words(&e);
+    fetch_refused(&e, DOORCLOVER_LENGTH_TOO_LONG, command, address, length);
+    length = 10;
+    fetch_refused(&e, DOORCLOVER_COMMAND_TOO_HIGH, command, address, length);
+    command = 5;
+    fetch_refused(&e, DOORCLOVER_WINDOW_TOO_LONG, command, address, length);
+    e.window = d.window;
+    fetch_refused(&e, DOORCLOVER_STORE_WRONG_SIZE, command, address, length);
+    e.store = d.store;
+    fetch_refused(&e, DOORCLOVER_OUTSIDE_WINDOW, command, address, length);
+    address = 16384 - 10;
+    fetch_refused(&e, DOORCLOVER_BUFFER_TOO_SHORT, command, address, length);
+    length = 9;
+    fetch_refused(&e, DOORCLOVER_STATE_BROKEN, command, address, length);
+    mend_words(&e);
+    fetch_refused(&e, DOORCLOVER_COMMAND_NOT_OPEN, command, address, length);
+    begin(&e, command);
+    fetch(&e, command, address, length, 9, 0);
+}
+
+void test_fetch_refused(void)
+{
+    desk d = fresh_desk();
+    desk longest = with_window(d, lend(DOORCLOVER_WINDOW, 7));
+    desk above = with_store(d, lend(DOORCLOVER_STORE + 1, 1));
+    desk no_room = with_destination(d, &nothing);
+    fetch_ladder(d);
+    begin(&d, 1);
+    fetch(&longest, 1, 65535, 1, 1, 0);
+    fetch_refused(&longest, DOORCLOVER_OUTSIDE_WINDOW, 1, 65535, 2);
+    fetch_refused(&d, DOORCLOVER_OUTSIDE_WINDOW, 1, 65535, 1); /* held, but past this window */
+    fetch_refused(&d, DOORCLOVER_OUTSIDE_WINDOW, 1, 16384, 1);
+    fetch_refused(&d, DOORCLOVER_OUTSIDE_WINDOW, 1, 16385, 0);
+    for (size_t length = 0; length <= DOORCLOVER_TRANSFER; length += 512)
+        fetch_refused(&d, DOORCLOVER_OUTSIDE_WINDOW, 1, SIZE_MAX - length + 1 - !length, length);
+    fetch_refused(&d, DOORCLOVER_LENGTH_TOO_LONG, 1, 0, SIZE_MAX);
+    fetch_refused(&above, DOORCLOVER_STORE_WRONG_SIZE, 1, 0, 1);
+    fetch_refused(&no_room, DOORCLOVER_BUFFER_TOO_SHORT, 1, 0, 1);
+    for (size_t i = 0; i < TOO_HIGH; i++)
+        fetch_refused(&d, DOORCLOVER_COMMAND_TOO_HIGH, too_high[i], 0, 1);
+}
+
+void test_fetch_full(void)
+{
+    desk d = fresh_desk();
+    begin(&d, 0);
+    fetch(&d, 0, 0, 4096, 4096, 0);
+    fetch_refused(&d, DOORCLOVER_TOO_MANY_BYTES, 0, 4096, 1);
+    fetch_refused(&d, DOORCLOVER_TOO_MANY_BYTES, 0, 1, 4096);
+    fetch(&d, 0, 0, 4096, 0, 4096);
+    CHECK(delivered(&d, 0, 4096));
+    begin(&d, 7);
+    for (size_t i = 0; i < DOORCLOVER_RECORDS; i++)
+        fetch(&d, 7, 2 * i, 1, 1, 0);
+    fetch_refused(&d, DOORCLOVER_TOO_MANY_RECORDS, 7, 128, 1);
+    fetch_refused(&d, DOORCLOVER_TOO_MANY_BYTES, 7, 128, 4096); /* both: the lower number */
+    fetch(&d, 7, 0, 3, 1, 2);
+    CHECK(delivered(&d, 0, 3));
+    fetch(&d, 7, 200, 1, 1, 0);
+    end(&d, 7, 64, 66);
+    end(&d, 0, 1, 4096);
+}
+
+void test_end(void)
+{
+    desk d = fresh_desk();
+    for (size_t c = 0; c < DOORCLOVER_COMMANDS; c++) {
+        begin(&d, c);
+        fetch(&d, c, 10 * c, 5, 5, 0);
+        fetch(&d, c, 1000, c, c, 0);
+    }
+    for (size_t c = 0; c < DOORCLOVER_COMMANDS; c++)
+        end(&d, c, c == 0 ? 1 : 2, 5 + c);
+    begin(&d, 0);
+    end(&d, 0, 0, 0);
+}
+
+void test_end_refused(void)
+{
+    desk d = fresh_desk();
+    desk below = with_store(d, lend(DOORCLOVER_STORE - 1, 1));
+    desk above = with_store(d, lend(DOORCLOVER_STORE + 1, 1));
+    desk none = with_store(d, &nothing);
+    end_refused(&d, DOORCLOVER_COMMAND_NOT_OPEN, 3);
+    begin(&d, 2);
+    fetch(&d, 2, 0, 9, 9, 0);
+    end_refused(&d, DOORCLOVER_COMMAND_NOT_OPEN, 3);
+    break_words(&d);
+    end_refused(&d, DOORCLOVER_STATE_BROKEN, 2);
+    end_refused(&d, DOORCLOVER_STATE_BROKEN, 3);
+    end_refused(&below, DOORCLOVER_STORE_WRONG_SIZE, 2);
+    end_refused(&above, DOORCLOVER_STORE_WRONG_SIZE, 2);
+    end_refused(&none, DOORCLOVER_STORE_WRONG_SIZE, 2);
+    for (size_t i = 0; i < TOO_HIGH; i++)
+        end_refused(&none, DOORCLOVER_COMMAND_TOO_HIGH, too_high[i]);
+}
+
+void test_host_write(void)
+{
+    desk d = fresh_desk();
+    desk all = with_bytes(d, lend(DOORCLOVER_TRANSFER, 0x11));
+    desk one = with_bytes(d, lend(1, 0x22));
+    desk far = with_window(one, lend(DOORCLOVER_WINDOW, 0));
+    host_write(&all, 0);
+    host_write(&all, 16384 - DOORCLOVER_TRANSFER);
+    host_write(&one, 16383);
+    host_write(&far, 65535);
+    host_write(&d, 16384); /* no bytes, at the very end */
+}
+
+void test_host_write_refused(void)
+{
+    desk d = with_bytes(fresh_desk(), lend(2, 0x11));
+    desk longer = with_bytes(d, lend(DOORCLOVER_TRANSFER + 1, 0x11));
+    desk wider = with_window(d, lend(DOORCLOVER_WINDOW + 1, 0));
+    desk both = with_window(longer, wider.window);
+    host_refused(&both, DOORCLOVER_LENGTH_TOO_LONG, SIZE_MAX);
+    host_refused(&longer, DOORCLOVER_LENGTH_TOO_LONG, 0);
+    host_refused(&wider, DOORCLOVER_WINDOW_TOO_LONG, SIZE_MAX);
+    host_refused(&wider, DOORCLOVER_WINDOW_TOO_LONG, 0);
+    host_refused(&d, DOORCLOVER_OUTSIDE_WINDOW, 16383);
+    host_refused(&d, DOORCLOVER_OUTSIDE_WINDOW, SIZE_MAX);
+    host_refused(&d, DOORCLOVER_OUTSIDE_WINDOW, SIZE_MAX - 1);
+}
+
+void test_own_write(void)
+{
+    desk d = fresh_desk();
+    desk two = with_bytes(d, lend(2, 0x99));
+    desk all = with_bytes(d, lend(DOORCLOVER_TRANSFER, 0x11));
+    begin(&d, 6);
+    fetch(&d, 6, 16, 2, 2, 0);
+    own_write(&two, 6, 16);
+    fetch(&d, 6, 16, 2, 0, 2);
+    CHECK(delivered(&d, 16, 2)); /* the old bytes */
+    own_write(&two, 6, 16382);
+    own_write(&all, 6, 0);
+    own_write(&d, 6, 16384);
+    desk below = with_store(two, lend(DOORCLOVER_STORE - 1, 1));
+    own_write(&below, 6, 3); /* a store of any length */
+}
+
+void test_own_write_refused(void)
+{
+    desk d = with_bytes(fresh_desk(), lend(2, 0x99));
+    desk longer = with_bytes(d, lend(DOORCLOVER_TRANSFER + 1, 0x11));
+    desk wider = with_window(d, lend(DOORCLOVER_WINDOW + 1, 0));
+    desk both = with_window(longer, wider.window);
+    own_refused(&d, DOORCLOVER_COMMAND_NOT_OPEN, 1, 0);
+    break_words(&d);
+    own_refused(&d, DOORCLOVER_STATE_BROKEN, 1, 0);
+    own_refused(&d, DOORCLOVER_OUTSIDE_WINDOW, 1, 16383);
+    own_refused(&d, DOORCLOVER_OUTSIDE_WINDOW, 1, SIZE_MAX);
+    own_refused(&wider, DOORCLOVER_WINDOW_TOO_LONG, 1, SIZE_MAX);
+    for (size_t i = 0; i < TOO_HIGH; i++)
+        own_refused(&wider, DOORCLOVER_COMMAND_TOO_HIGH, too_high[i], SIZE_MAX);
+    own_refused(&both, DOORCLOVER_LENGTH_TOO_LONG, 8, SIZE_MAX);
+    mend_words(&d);
+    begin(&d, 1);
+    own_refused(&d, DOORCLOVER_COMMAND_NOT_OPEN, 0, 0);
+    own_refused(&longer, DOORCLOVER_LENGTH_TOO_LONG, 1, 0);
+}
+
+void test_show(void)
+{
+    desk d = fresh_desk();
+    desk longest = with_window(d, lend(DOORCLOVER_WINDOW, 7));
+    show_refused(&d, DOORCLOVER_COMMAND_NOT_OPEN, 2, 0);
+    begin(&d, 2);
+    show_refused(&d, DOORCLOVER_NO_SUCH_RECORD, 2, 0);
+    fetch(&d, 2, 300, 3, 3, 0);
+    fetch(&longest, 2, 65535, 1, 1, 0);
+    show(&d, 2, 0, 300, 3);
+    show(&d, 2, 1, 65535, 1);
+    show_refused(&d, DOORCLOVER_NO_SUCH_RECORD, 2, 2);
+    show_refused(&d, DOORCLOVER_NO_SUCH_RECORD, 2, SIZE_MAX);
+    show_refused(&d, DOORCLOVER_COMMAND_NOT_OPEN, 3, 2);
+    break_words(&d);
+    show_refused(&d, DOORCLOVER_STATE_BROKEN, 3, 2);
+    show_refused(&d, DOORCLOVER_STATE_BROKEN, 2, 0);
+    for (size_t i = 0; i < TOO_HIGH; i++)
+        show_refused(&d, DOORCLOVER_COMMAND_TOO_HIGH, too_high[i], 0);
+}
+
+void test_nulls(void)
+{
+    desk d = fresh_desk();
+    desk no_window = with_window(d, &nothing);
+    desk no_bytes = with_bytes(d, &nothing);
+    desk neither = with_bytes(no_window, &nothing);
+    desk no_store = with_store(neither, &nothing);
+    desk one = with_bytes(no_window, lend(1, 1));
+    begin(&d, 0);
+    fetch(&d, 0, 0, 4, 4, 0);
+    desk empty = with_destination(no_window, &nothing);
+    fetch(&empty, 0, 0, 0, 0, 0);
+    fetch_refused(&empty, DOORCLOVER_OUTSIDE_WINDOW, 0, 0, 1);
+    fetch_refused(&empty, DOORCLOVER_OUTSIDE_WINDOW, 0, 1, 0);
+    fetch_refused(&no_store, DOORCLOVER_STORE_WRONG_SIZE, 0, 0, 0);
+    host_write(&no_bytes, 5);
+    host_write(&neither, 0);
+    host_refused(&neither, DOORCLOVER_OUTSIDE_WINDOW, 1);
+    host_refused(&one, DOORCLOVER_OUTSIDE_WINDOW, 0);
+    own_write(&no_bytes, 0, 5);
+    own_write(&no_store, 0, 0);
+    own_refused(&one, DOORCLOVER_OUTSIDE_WINDOW, 0, 0);
+}

@@ -1,0 +1,60 @@
+/*
+ * A desk: what is lent to the calls, and the calls made with it. Every call is tried in the same way:
+ * its status is noted, and what it must leave alone is compared byte for byte.
+ */
+#ifndef DESK_H
+#define DESK_H
+
+#include "lent.h"
+
+typedef struct {
+    lent *state;
+    lent *store;
+    lent *window;
+    lent *destination;
+    lent *bytes;  /* what is written, the data of a frame, a frame or a journal */
+    lent *output; /* a frame or a log */
+} desk;
+
+/* A test fails if one of its checks does. */
+#define CHECK(what) check((what) != 0, #what, __FILE__, __LINE__)
+void check(int good, const char *what, const char *file, int line);
+extern unsigned long checks, failures;
+
+/* A fresh state, a store of old bytes, a window of 16,384 bytes of which no two neighbours agree. */
+desk fresh_desk(void);
+
+/* A piece that holds the given bytes. */
+lent *lend_bytes(const void *bytes, size_t size);
+
+doorclover_state *state_of(const desk *d);
+uint16_t *words_of(const desk *d, size_t command);
+
+/* The byte of the window at an address, as a fresh desk has it. */
+uint8_t host_byte(size_t address);
+
+/* A refusal: the status is the one wanted, all other members are 0, and nothing lent has changed. */
+void begin_refused(const desk *d, doorclover_status want, size_t command);
+void end_refused(const desk *d, doorclover_status want, size_t command);
+void fetch_refused(const desk *d, doorclover_status want, size_t command, size_t address,
+                   size_t length);
+void host_refused(const desk *d, doorclover_status want, size_t address);
+void own_refused(const desk *d, doorclover_status want, size_t command, size_t address);
+void show_refused(const desk *d, doorclover_status want, size_t command, size_t index);
+void read_refused(const desk *d, doorclover_status want);
+void write_refused(const desk *d, doorclover_status want, size_t kind, size_t command,
+                   size_t address, size_t length);
+
+/* A call that is done: its reply is the one wanted, and no byte has changed that it may not change. */
+void begin(const desk *d, size_t command);
+void end(const desk *d, size_t command, size_t records, size_t bytes);
+void fetch(const desk *d, size_t command, size_t address, size_t length, size_t fresh,
+           size_t replayed);
+void host_write(const desk *d, size_t address);
+void own_write(const desk *d, size_t command, size_t address);
+void show(const desk *d, size_t command, size_t index, size_t start, size_t length);
+
+/* Were just these refusals seen, of a call by its name? The numbers end with 0. */
+int seen_just(const char *call, const doorclover_status *numbers);
+
+#endif

@@ -1,0 +1,90 @@
+/* Runs every test twice: with what is lent at the front of its pages, and at their back. */
+#include "desk.h"
+#include "tests.h"
+
+#include <stdio.h>
+
+static void test_every_refusal_seen(void)
+{
+    static const doorclover_status begins[] = {6, 8, 20, 22, 0};
+    static const doorclover_status fetches[] = {4, 6, 7, 8, 9, 10, 20, 21, 23, 24, 0};
+    static const doorclover_status ends[] = {6, 8, 20, 21, 0};
+    static const doorclover_status hosts[] = {4, 7, 9, 0};
+    static const doorclover_status owns[] = {4, 6, 7, 9, 20, 21, 0};
+    static const doorclover_status shows[] = {6, 20, 21, 25, 0};
+    static const doorclover_status reads[] = {1, 2, 3, 4, 5, 0};
+    static const doorclover_status writes[] = {2, 3, 4, 5, 6, 10, 11, 0};
+    CHECK(seen_just("begin", begins));
+    CHECK(seen_just("fetch", fetches));
+    CHECK(seen_just("end", ends));
+    CHECK(seen_just("host write", hosts));
+    CHECK(seen_just("own write", owns));
+    CHECK(seen_just("show", shows));
+    CHECK(seen_just("read", reads));
+    CHECK(seen_just("write", writes));
+}
+
+typedef struct {
+    const char *name;
+    void (*run)(void);
+} test;
+
+static const test tests[] = {
+    {"release and fresh", test_fresh},
+    {"begin", test_begin},
+    {"begin refused", test_begin_refused},
+    {"fetch", test_fetch},
+    {"fetch joins records", test_fetch_joins},
+    {"fetch refused", test_fetch_refused},
+    {"fetch of too many bytes and records", test_fetch_full},
+    {"end", test_end},
+    {"end refused", test_end_refused},
+    {"host write", test_host_write},
+    {"host write refused", test_host_write_refused},
+    {"own write", test_own_write},
+    {"own write refused", test_own_write_refused},
+    {"show", test_show},
+    {"null pointers with length 0", test_nulls},
+    {"broken words", test_broken_words},
+    {"words at their limits", test_words_at_their_limits},
+    {"a state in a larger struct", test_state_in_a_struct},
+    {"two states side by side", test_states_side_by_side},
+    {"frame read", test_frame_read},
+    {"frame read refused", test_frame_read_refused},
+    {"frame write", test_frame_write},
+    {"frame write refused", test_frame_write_refused},
+    {"journal", test_journal},
+    {"journal with a log that is cut", test_journal_cut},
+    {"journal with refused and unreadable frames", test_journal_refused},
+    {"journal with null pointers", test_journal_nulls},
+    {"just the listed refusals were seen", test_every_refusal_seen},
+};
+
+static int passes(const test *t, const char *where)
+{
+    unsigned long before = checks, failed = failures;
+    t->run();
+    return_all();
+    int good = failures == failed && checks > before;
+    printf("%s calls: %s (%s, %lu checks)\n", good ? "ok    " : "FAILED", t->name, where,
+           checks - before);
+    return good;
+}
+
+int main(void)
+{
+    static const char *const where[] = {"after a fence", "before a fence"};
+    unsigned passed = 0, failed = 0;
+    setvbuf(stdout, NULL, _IOLBF, 0);
+    for (int p = AT_FRONT; p <= AT_BACK; p++) {
+        lent_place = (place)p;
+        for (size_t i = 0; i < sizeof tests / sizeof tests[0]; i++) {
+            if (passes(&tests[i], where[p]))
+                passed++;
+            else
+                failed++;
+        }
+    }
+    printf("%u passed, %u failed\n", passed, failed);
+    return failed != 0;
+}

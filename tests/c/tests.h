@@ -1,0 +1,38 @@
+/* The tests, each on memory of its own. */
+#ifndef TESTS_H
+#define TESTS_H
+
+/* calls.c */
+void test_fresh(void);
+void test_begin(void);
+void test_begin_refused(void);
+void test_fetch(void);
+void test_fetch_joins(void);
+void test_fetch_refused(void);
+void test_fetch_full(void);
+void test_end(void);
+void test_end_refused(void);
+void test_host_write(void);
+void test_host_write_refused(void);
+void test_own_write(void);
+void test_own_write_refused(void);
+void test_show(void);
+void test_nulls(void);
+
+/* states.c */
+void test_broken_words(void);
+void test_words_at_their_limits(void);
+void test_state_in_a_struct(void);
+void test_states_side_by_side(void);
+
+/* frames.c */
+void test_frame_read(void);
+void test_frame_read_refused(void);
+void test_frame_write(void);
+void test_frame_write_refused(void);
+void test_journal(void);
+void test_journal_cut(void);
+void test_journal_refused(void);
+void test_journal_nulls(void);
+
+#endif

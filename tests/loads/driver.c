@@ -1,0 +1,290 @@
+/*
+ * Makes calls of the library and writes down what each has to do to memory, for count.c to hold against the trace.
+ *
+ * What it prints, one line each:
+ *   room NAME START SIZE    where a buffer stands: what is lent of it, with EDGE bytes before and behind
+ *   marker START            this word is stored to before a call and behind it, and at no other time
+ *   call TEXT               a call, in the order of the trace; a text that begins with '-' is a row of the table only if it fails
+ *     part C                the command whose part of the store it may touch
+ *     none                  from here on this command holds nothing
+ *     load A N              the window's bytes that it loads, each of them once; the command holds them from here on
+ *     deliver A N           it loads the places of the store that have these bytes, and stores to the front of the destination
+ *     write A N             the window's bytes that it stores, each of them once
+ *     reply OK FRESH REPLAYED STATUS    what it replied; OK is 1 if reply and delivered bytes are those of the model
+ */
+#include <stdbool.h>
+#include <stdint.h>
+#include <stdio.h>
+#include <string.h>
+
+#include "doorclover.h"
+
+#define EDGE 64
+#define DESTINATION 4200
+
+static _Alignas(64) uint8_t window_room[EDGE + DOORCLOVER_WINDOW + EDGE];
+static _Alignas(64) uint8_t store_room[EDGE + DOORCLOVER_STORE + EDGE];
+static _Alignas(64) uint8_t destination_room[EDGE + DESTINATION + EDGE];
+static uint8_t *const window = window_room + EDGE;
+static uint8_t *const store = store_room + EDGE;
+static uint8_t *const destination = destination_room + EDGE;
+static volatile uint32_t marker;
+
+/* What the next calls are lent. */
+static doorclover_state whole, broken;
+static doorclover_state *state = &whole;
+static size_t store_size = DOORCLOVER_STORE;
+static size_t window_size = DOORCLOVER_WINDOW;
+static size_t destination_size = DESTINATION;
+static uint8_t given[DOORCLOVER_TRANSFER + 1];
+
+/* The model: in which turn of a command a byte was fetched, what it was at the first fetch of the turn, and how many there were. */
+static uint32_t turn[DOORCLOVER_COMMANDS];
+static size_t bytes[DOORCLOVER_COMMANDS];
+static uint32_t fetched[DOORCLOVER_COMMANDS][DOORCLOVER_WINDOW];
+static uint8_t first[DOORCLOVER_COMMANDS][DOORCLOVER_WINDOW];
+
+/* Has the command hold the span, says which of its bytes are to be loaded, and returns their number. */
+static size_t hold(size_t command, size_t address, size_t length) {
+    size_t fresh = 0, run = 0;
+    for (size_t i = address; i < address + length; i++) {
+        bool held = fetched[command][i] == turn[command];
+        if (!held) {
+            fetched[command][i] = turn[command];
+            first[command][i] = window[i];
+            run++;
+        }
+        if (run > 0 && (held || i + 1 == address + length)) {
+            printf("load %zu %zu\n", held ? i - run : i + 1 - run, run);
+            fresh += run;
+            run = 0;
+        }
+    }
+    bytes[command] += fresh;
+    return fresh;
+}
+
+static bool delivered(size_t command, size_t address, size_t length) {
+    for (size_t i = 0; i < length; i++)
+        if (destination[i] != first[command][address + i]) return false;
+    return true;
+}
+
+static void reply(bool ok, size_t fresh, size_t replayed, uint32_t status) {
+    printf("reply %d %zu %zu %u\n", ok, fresh, replayed, status);
+}
+
+static void begin(const char *text, size_t command) {
+    printf("call %s\npart %zu\nnone\n", text, command);
+    turn[command]++;
+    bytes[command] = 0;
+    marker = 1;
+    doorclover_begun r = doorclover_begin(state, store, store_size, command);
+    marker = 0;
+    reply(r.status == 0, 0, 0, r.status);
+}
+
+static void end(const char *text, size_t command) {
+    printf("call %s\npart %zu\nnone\n", text, command);
+    marker = 1;
+    doorclover_ended r = doorclover_end(state, store, store_size, command);
+    marker = 0;
+    reply(r.status == 0 && r.bytes == bytes[command], 0, 0, r.status);
+}
+
+static doorclover_fetched call_fetch(size_t command, size_t address, size_t length) {
+    marker = 1;
+    doorclover_fetched r = doorclover_fetch(
+        state, store, store_size, window, window_size, destination, destination_size, command, address, length);
+    marker = 0;
+    return r;
+}
+
+static void fetch(const char *text, size_t command, size_t address, size_t length) {
+    printf("call %s\npart %zu\n", text, command);
+    size_t fresh = hold(command, address, length);
+    printf("deliver %zu %zu\n", address, length);
+    for (size_t i = 0; i < length; i++) destination[i] = (uint8_t)~first[command][address + i];
+    doorclover_fetched r = call_fetch(command, address, length);
+    bool counts = r.status == 0 && r.fresh == fresh && r.replayed == length - fresh;
+    reply(counts && delivered(command, address, length), r.fresh, r.replayed, r.status);
+}
+
+static void refused_fetch(const char *text, uint32_t status, size_t command, size_t address, size_t length) {
+    printf("call %s\n", text);
+    doorclover_fetched r = call_fetch(command, address, length);
+    reply(r.status == status && r.fresh == 0 && r.replayed == 0, r.fresh, r.replayed, r.status);
+}
+
+/* A write by the host, or by a command. It is refused if a status is given. */
+static void host_write(const char *text, uint32_t status, size_t address, size_t size) {
+    printf("call %s\n", text);
+    if (status == 0) printf("write %zu %zu\n", address, size);
+    marker = 1;
+    doorclover_written r = doorclover_host_write(window, window_size, address, given, size);
+    marker = 0;
+    reply(r.status == status && r.bytes == (status == 0 ? size : 0), 0, 0, r.status);
+}
+
+static void own_write(const char *text, uint32_t status, size_t command, size_t address, size_t size) {
+    printf("call %s\n", text);
+    if (status == 0) printf("write %zu %zu\n", address, size);
+    marker = 1;
+    doorclover_written r =
+        doorclover_own_write(state, store, store_size, window, window_size, command, address, given, size);
+    marker = 0;
+    reply(r.status == status && r.bytes == (status == 0 ? size : 0), 0, 0, r.status);
+}
+
+/* The window gets other bytes everywhere, as between two calls it may. */
+static void change_window(uint64_t seed) {
+    for (size_t i = 0; i < DOORCLOVER_WINDOW; i += sizeof seed) {
+        seed = seed * 6364136223846793005u + 1442695040888963407u;
+        memcpy(window + i, &seed, sizeof seed);
+    }
+}
+
+static void of_every_length(void) {
+    begin("begin 3", 3);
+    fetch("fetch 3 1001+1", 3, 1001, 1);
+    fetch("fetch 3 2003+3", 3, 2003, 3);
+    fetch("fetch 3 3005+16", 3, 3005, 16);
+    fetch("fetch 3 4007+17", 3, 4007, 17);
+    fetch("fetch 3 5009+64", 3, 5009, 64);
+    fetch("fetch 3 6011+100", 3, 6011, 100);
+    begin("begin 5", 5);
+    fetch("fetch 5 16385+4096", 5, 16385, 4096);
+    change_window(2);
+    fetch("fetch 3 1001+1 again", 3, 1001, 1);
+    fetch("fetch 3 2003+3 again", 3, 2003, 3);
+    fetch("fetch 3 3005+16 again", 3, 3005, 16);
+    fetch("fetch 3 4007+17 again", 3, 4007, 17);
+    fetch("fetch 3 5009+64 again", 3, 5009, 64);
+    fetch("fetch 3 6011+100 again", 3, 6011, 100);
+    fetch("fetch 5 16385+4096 again", 5, 16385, 4096);
+}
+
+static void overlapping(void) {
+    fetch("fetch 3 3001+8, end held", 3, 3001, 8);
+    fetch("fetch 3 3017+8, front held", 3, 3017, 8);
+    fetch("fetch 3 4001+33, middle held", 3, 4001, 33);
+    begin("begin 1", 1);
+    fetch("-fetch 1 101+5", 1, 101, 5);
+    fetch("-fetch 1 111+7", 1, 111, 7);
+    fetch("-fetch 1 131+1", 1, 131, 1);
+    fetch("-fetch 1 140+20", 1, 140, 20);
+    fetch("-fetch 1 301+50", 1, 301, 50);
+    change_window(3);
+    fetch("fetch 1 95+80, over 4 records", 1, 95, 80);
+    begin("begin 2", 2);
+    fetch("-fetch 2 201+9", 2, 201, 9);
+    fetch("-fetch 2 221+9", 2, 221, 9);
+    fetch("-fetch 2 241+9", 2, 241, 9);
+    change_window(4);
+    fetch("fetch 2 205+40, from record to record", 2, 205, 40);
+    fetch("fetch 2 207+30, inside a record", 2, 207, 30);
+    fetch("fetch 2 250+3, touching a record", 2, 250, 3);
+    fetch("fetch 2 247+6, over 2 records", 2, 247, 6);
+    fetch("fetch 2 0+1, the first byte", 2, 0, 1);
+    fetch("fetch 2 65519+17, up to the last", 2, 65519, 17);
+    fetch("fetch 2 300+0", 2, 300, 0);
+    fetch("fetch 2 65536+0", 2, 65536, 0);
+}
+
+/* Of every second byte a record, until there is room for no more; then all of them and the gaps at once. */
+static void many_records(void) {
+    begin("begin 4", 4);
+    for (size_t i = 0; i < DOORCLOVER_RECORDS; i++) fetch("-fetch 4, a single byte", 4, 2 * i + 1, 1);
+    refused_fetch("fetch 4 129+1, too many records", 24, 4, 129, 1);
+    change_window(5);
+    fetch("fetch 4 1+3, over 2 records", 4, 1, 3);
+    fetch("fetch 4 1+127, over 63 records", 4, 1, 127);
+    end("end 4", 4);
+}
+
+static void refused(void) {
+    refused_fetch("fetch 3 0+4097, too long", 4, 3, 0, 4097);
+    refused_fetch("fetch 8 0+1, command too high", 6, 8, 0, 1);
+    window_size = DOORCLOVER_WINDOW + 1;
+    refused_fetch("fetch 3 0+1, window too long", 7, 3, 0, 1);
+    window_size = DOORCLOVER_WINDOW;
+    store_size = DOORCLOVER_STORE - 1;
+    refused_fetch("fetch 3 0+1, store too short", 8, 3, 0, 1);
+    store_size = DOORCLOVER_STORE;
+    refused_fetch("fetch 3 65530+7, outside", 9, 3, 65530, 7);
+    refused_fetch("fetch 3 2^64-1+2, outside", 9, 3, SIZE_MAX, 2);
+    window_size = 1000;
+    refused_fetch("fetch 3 1001+1, held and outside", 9, 3, 1001, 1);
+    window_size = DOORCLOVER_WINDOW;
+    destination_size = 7;
+    refused_fetch("fetch 3 0+8, no room for it", 10, 3, 0, 8);
+    destination_size = DESTINATION;
+    state = &broken;
+    refused_fetch("fetch 3 0+8, broken state", 20, 3, 0, 8);
+    state = &whole;
+    refused_fetch("fetch 6 0+8, not open", 21, 6, 0, 8);
+    refused_fetch("fetch 5 16384+2, too many bytes", 23, 5, 16384, 2);
+}
+
+static void writes(void) {
+    host_write("host write 2001+64", 0, 2001, 64);
+    host_write("host write 8191+4096", 0, 8191, 4096);
+    host_write("host write 100+0", 0, 100, 0);
+    own_write("own write 3 1001+1", 0, 3, 1001, 1);
+    own_write("own write 3 5003+99", 0, 3, 5003, 99);
+    own_write("own write 3 40961+4096", 0, 3, 40961, 4096);
+    fetch("fetch 3 1001+1 after the writes", 3, 1001, 1);
+    fetch("fetch 3 5003+99 after the writes", 3, 5003, 99);
+    host_write("host write 65530+7, outside", 9, 65530, 7);
+    host_write("host write 0+4097, too long", 4, 0, 4097);
+    own_write("own write 6 0+8, not open", 21, 6, 0, 8);
+    own_write("own write 3 65530+7, outside", 9, 3, 65530, 7);
+}
+
+static void ends(void) {
+    end("end 3", 3);
+    refused_fetch("fetch 3 1001+1, ended", 21, 3, 1001, 1);
+    begin("begin 3 again", 3);
+    fetch("fetch 3 1001+17, a new command", 3, 1001, 17);
+    end("end 3", 3);
+    end("end 5", 5);
+    end("end 1", 1);
+    end("end 2", 2);
+}
+
+/* Some calls of each kind of fetch: enough to tell a wrong one. */
+static void few(void) {
+    begin("begin 3", 3);
+    fetch("fetch 3 1001+17", 3, 1001, 17);
+    fetch("fetch 3 1001+17 again", 3, 1001, 17);
+    fetch("fetch 3 1010+17, front held", 3, 1010, 17);
+    refused_fetch("fetch 6 1001+17, not open", 21, 6, 1001, 17);
+    end("end 3", 3);
+}
+
+static void room(const char *name, const uint8_t *start, size_t size) {
+    printf("room %s %zu %zu\n", name, (size_t)start, size);
+}
+
+/* driver [few] */
+int main(int argc, char **argv) {
+    room("window", window_room, sizeof window_room);
+    room("store", store_room, sizeof store_room);
+    room("destination", destination_room, sizeof destination_room);
+    printf("marker %zu\n", (size_t)&marker);
+    for (size_t i = 0; i < sizeof given; i++) given[i] = (uint8_t)(7 * i + 1);
+    for (size_t i = 0; i < DOORCLOVER_STATE_WORDS; i++) broken.words[i] = 65535;
+    doorclover_fresh(&whole);
+    change_window(1);
+    if (argc > 1 && strcmp(argv[1], "few") == 0) {
+        few();
+        return 0;
+    }
+    of_every_length();
+    overlapping();
+    many_records();
+    refused();
+    writes();
+    ends();
+    return 0;
+}

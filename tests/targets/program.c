@@ -1,0 +1,185 @@
+/*
+ * A program without a C library that links the archive: a retire list whose count the host changes after it was checked, and then
+ * calls of all kinds with made numbers, of which every answer and every buffer goes into a sum. The sums are the same on every
+ * target. Its status is 0 if the bytes and the replies of the first part are right.
+ */
+#include "doorclover.h"
+#include "machine.h"
+
+#define MADE_CALLS 20000
+
+static doorclover_state state;
+static uint8_t store[DOORCLOVER_STORE], window[16384], destination[DOORCLOVER_TRANSFER], output[32768], bytes[DOORCLOVER_TRANSFER];
+static unsigned wrong;
+
+static void check(int right, const char *what) {
+    if (right) return;
+    put("wrong: ");
+    put(what);
+    put("\n");
+    wrong++;
+}
+
+static void retire_list(void) {
+    static const uint8_t four[] = {4, 0, 0, 0}, forty[] = {40, 0, 0, 0};
+    doorclover_fresh(&state);
+    check(doorclover_release() == DOORCLOVER_RELEASE, "release");
+    check(doorclover_begin(&state, store, sizeof store, 3).status == 0, "begin");
+    check(doorclover_host_write(window, sizeof window, 101, four, sizeof four).bytes == 4, "host write");
+    doorclover_fetched r =
+        doorclover_fetch(&state, store, sizeof store, window, sizeof window, destination, sizeof destination, 3, 101, 4);
+    check(r.status == 0 && r.fresh == 4 && r.replayed == 0 && destination[0] == 4, "first fetch");
+    check(doorclover_host_write(window, sizeof window, 101, forty, sizeof forty).bytes == 4, "second host write");
+    r = doorclover_fetch(&state, store, sizeof store, window, sizeof window, destination, sizeof destination, 3, 99, 8);
+    check(r.status == 0 && r.fresh == 4 && r.replayed == 4 && destination[2] == 4, "second fetch");
+    check(doorclover_own_write(&state, store, sizeof store, window, sizeof window, 3, 101, four, 1).bytes == 1, "own write");
+    doorclover_shown s = doorclover_show(&state, 3, 0);
+    check(s.status == 0 && s.start == 99 && s.length == 8, "show");
+    doorclover_ended e = doorclover_end(&state, store, sizeof store, 3);
+    check(e.status == 0 && e.records == 1 && e.bytes == 8, "end");
+    r = doorclover_fetch(&state, store, sizeof store, window, sizeof window, destination, sizeof destination, 3, 101, 4);
+    check(r.status == DOORCLOVER_COMMAND_NOT_OPEN && r.fresh == 0 && r.replayed == 0, "fetch after the end");
+}
+
+/* The worked example of the log. */
+static void journal(void) {
+    static const uint8_t frames[] = {0x08, 0, 0, 0, 0, 0x60, 0, 0x40, 0, 0x80, 0x61, 0x62, 0x63, 0x64, 0x28, 0, 0x40, 0, 0x80,
+                                     0x60, 0, 0x48, 0, 0x40, 0x7a, 0x7a, 0x28, 0, 0x38, 1, 0, 0x48, 0, 0, 0, 0, 0x28, 0, 0x40, 0, 0x80};
+    memset(window, 0, sizeof window);
+    doorclover_replayed r = doorclover_journal_replay(frames, sizeof frames, store, sizeof store, window, sizeof window,
+                                                      destination, sizeof destination, output, sizeof output - 1);
+    check(r.carried == 6 && r.refused == 1 && r.early == 0, "journal");
+    output[r.written] = 0;
+    put((const char *)output);
+}
+
+static uint64_t sum = 14695981039346656037u;
+
+static void add(const void *from, size_t size) {
+    for (size_t i = 0; i < size; i++) sum = (sum ^ ((const uint8_t *)from)[i]) * 1099511628211u;
+}
+
+static void add_number(uint64_t number) {
+    add(&number, sizeof number);
+}
+
+static uint64_t seed = 1;
+
+/* A number below a limit. */
+static size_t made(size_t limit) {
+    seed = seed * 6364136223846793005u + 1442695040888963407u;
+    return (size_t)((seed >> 33) % limit);
+}
+
+/* Most numbers are small, so that spans meet; some are out of range. */
+static size_t made_address(void) {
+    return made(50) == 0 ? SIZE_MAX - made(3) : made(20) == 0 ? 16384 - made(40) : made(700);
+}
+
+static size_t made_length(void) {
+    return made(60) == 0 ? 4090 + made(8) : made(4) == 0 ? made(300) : made(9);
+}
+
+static void fetch(size_t command, size_t address, size_t length) {
+    size_t room = made(30) == 0 ? made(sizeof destination) : sizeof destination;
+    doorclover_fetched r =
+        doorclover_fetch(&state, store, sizeof store, window, sizeof window, destination, room, command, address, length);
+    add_number(r.status);
+    add_number(r.fresh);
+    add_number(r.replayed);
+}
+
+static void write(size_t command, size_t address, size_t length) {
+    if (length > sizeof bytes) length = sizeof bytes;
+    for (size_t i = 0; i < length; i++) bytes[i] = (uint8_t)made(256);
+    doorclover_written r =
+        made(2) == 0 ? doorclover_host_write(window, sizeof window, address, bytes, length)
+                     : doorclover_own_write(&state, store, sizeof store, window, sizeof window, command, address, bytes, length);
+    add_number(r.status);
+    add_number(r.bytes);
+}
+
+static void frame(size_t command, size_t address, size_t length) {
+    doorclover_framed r = doorclover_frame_write(output, sizeof output, made(6), command, made(2) * address, made(2) * length, bytes,
+                                                 made(3) == 0 ? length % sizeof bytes : 0);
+    add_number(r.status);
+    add_number(r.length);
+    output[made(5)] ^= (uint8_t)(1u << made(8));
+    doorclover_step s = doorclover_frame_read(output, made(20) == 0 ? made(6) : made(5000));
+    add_number(s.status);
+    add_number(s.kind);
+    add_number(s.command);
+    add_number(s.address);
+    add_number(s.length);
+    add_number(s.taken);
+}
+
+static void made_call(void) {
+    size_t command = made(40) == 0 ? 8 + made(3) : made(3), address = made_address(), length = made_length();
+    switch (made(12)) {
+    case 0: {
+        add_number(doorclover_begin(&state, store, sizeof store - (made(30) == 0), command).status);
+        break;
+    }
+    case 1: {
+        if (made(4) != 0) break;
+        doorclover_ended r = doorclover_end(&state, store, sizeof store, command);
+        add_number(r.status);
+        add_number(r.records);
+        add_number(r.bytes);
+        break;
+    }
+    case 2: {
+        doorclover_shown r = doorclover_show(&state, command, made(20));
+        add_number(r.status);
+        add_number(r.start);
+        add_number(r.length);
+        break;
+    }
+    case 3: frame(command, address, length); break;
+    case 4: write(command, address, length); break;
+    default: fetch(command, address, length);
+    }
+}
+
+/* A state that does not hold together, now and then: a word is changed, all calls see it, and it is put back. */
+static void broken_call(void) {
+    uint16_t *word = &state.words[made(DOORCLOVER_STATE_WORDS)], was = *word;
+    *word = (uint16_t)made(65536);
+    doorclover_state kept = state;
+    fetch(made(3), made_address(), 0);
+    doorclover_shown r = doorclover_show(&state, made(3), 0);
+    add_number(r.status);
+    add_number(r.start);
+    add_number(r.length);
+    for (size_t i = 0; i < DOORCLOVER_STATE_WORDS; i++) check(kept.words[i] == state.words[i], "a state that was not to change");
+    *word = was;
+}
+
+static void made_calls(void) {
+    doorclover_fresh(&state);
+    for (size_t n = 1; n <= MADE_CALLS; n++) {
+        if (made(25) == 0) broken_call();
+        else made_call();
+        add(&state, sizeof state);
+        add(destination, 64);
+        if (n % 100 != 0) continue;
+        add(store, sizeof store);
+        add(window, sizeof window);
+        add(destination, sizeof destination);
+        add(output, sizeof output);
+        if (n % 2000 != 0) continue;
+        put_number(n);
+        put(" calls, sum ");
+        put_number(sum);
+        put("\n");
+    }
+}
+
+int run(void) {
+    retire_list();
+    journal();
+    made_calls();
+    put(wrong == 0 ? "right\n" : "WRONG\n");
+    return wrong != 0;
+}
