@@ -55,9 +55,12 @@
  *                    end   176                          journal     3400
  * DOORCLOVER_STACK and DOORCLOVER_JOURNAL_STACK are these with some room.
  *
- * Target: x86-64 with the System V calling convention, ELF. The code uses SSE2 registers and the red
- * zone of 128 bytes below the stack pointer, so that an interrupt handler must leave both as they
- * are. It is independent of its position and makes no system calls.
+ * Targets: archives for x86-64, AArch64 and RISC-V 64 (rv64gc, lp64d), little-endian, ELF, by the
+ * target's own calling convention. The stack figures above are those of x86-64; by the compiler's
+ * figures the two sizes below are enough on all three. The code uses vector registers on x86-64
+ * (SSE2) and AArch64, and on x86-64 the red zone of 128 bytes below the stack pointer, so that an
+ * interrupt handler must leave these as they are. On AArch64 a load or store may be unaligned, which
+ * asks for normal memory. No system calls are made.
  *
  * The header is for C11 and C++11.
  */

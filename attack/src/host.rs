@@ -12,8 +12,9 @@
 //! store. So whoever lends a live window has duties: it is raw memory and never
 //! a Rust reference, since a reference promises that nobody writes; the
 //! compiled code that is shipped is shown to deliver from the store alone, by
-//! its listing or by a trial such as this; and where that is not enough, the
-//! boundary copies what a call may read by volatile loads and lends the copy.
+//! a count of its loads (`tests/loads`) or a trial such as this; and where that
+//! is not enough, the boundary copies what a call may read by volatile loads
+//! and lends the copy.
 //! The state, the store and the destination must be out of the host's reach.
 
 use std::ptr;

@@ -1,38 +1,10 @@
 //! `calls`: makes direct calls in the proved library, which it links, and in
 //! the reference, and compares all that each answers and leaves.
-//!
-//! Saying what is called:
-//! - [`call`]: one call, and what sets the ground for calls.
-//! - [`line`]: one line of the file of calls.
-//! - [`file`]: the whole file, `calls.txt`.
-//! - [`random`]: lists of calls that depend on a seed alone; [`states`] has the
-//!   words that some start from.
-//!
-//! Calling and comparing:
-//! - [`buffers`]: the buffers of which parts are lent.
-//! - [`words`]: the words of a state and the reference's book, one from the other.
-//! - [`library`] and [`expected`]: a call in the library and in the reference.
-//! - [`answer`]: what a call answers.
-//! - [`pair`]: both sides, compared after each call.
-//! - [`tally`]: the answers, counted.
-//! - [`sums`]: all calls, and what came of them.
-
-mod answer;
-mod buffers;
-mod call;
-mod expected;
-mod file;
-mod library;
-mod line;
-mod pair;
-mod random;
-mod states;
-mod sums;
-mod tally;
-mod words;
 
 use std::env;
 use std::process::ExitCode;
+
+use calls::{file, sums};
 
 const CALLS: &str = include_str!("../calls.txt");
 

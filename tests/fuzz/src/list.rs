@@ -1,0 +1,155 @@
+//! A list of calls and settings from the bytes of an input.
+
+use calls::buffers::NAMES;
+use calls::call::{Bytes, Call, Setting, MOST_DATA};
+use calls::line::Line;
+use calls::words::PER_COMMAND;
+use reference::book::Span;
+use reference::limits::{BYTES_PER_CALL, COMMANDS, RECORDS_PER_COMMAND, WINDOW_BYTES};
+
+use crate::input::Input;
+
+/// The most lines of a list.
+const LINES: usize = 100;
+
+/// The kinds of a frame and the three that there are not.
+const KINDS: u64 = 8;
+
+/// The lines that the bytes stand for.
+pub fn lines(bytes: &[u8]) -> Vec<Line> {
+    let mut input = Input(bytes);
+    let mut lines = vec![];
+    while !input.is_empty() && lines.len() < LINES {
+        lines.push(line(&mut input));
+    }
+    lines
+}
+
+fn line(input: &mut Input) -> Line {
+    let call = match input.byte() % 32 {
+        0..=3 => Call::Begin {
+            command: command(input),
+        },
+        4..=14 => Call::Fetch {
+            command: command(input),
+            span: span(input),
+        },
+        15..=16 => Call::End {
+            command: command(input),
+        },
+        17..=18 => Call::Host {
+            span: span_of_data(input),
+        },
+        19..=20 => Call::Own {
+            command: command(input),
+            span: span_of_data(input),
+        },
+        21..=22 => Call::Show {
+            command: command(input),
+            index: input.number(RECORDS_PER_COMMAND as u64),
+        },
+        23..=24 => Call::Read(given(input)),
+        25..=26 => write(input),
+        27 => Call::Replay(given(input)),
+        28 => return Line::Set(lend(input)),
+        29..=30 => return Line::Set(words(input)),
+        _ if input.byte() % 2 == 0 => Call::Fresh,
+        _ => Call::Release,
+    };
+    Line::Call(call, vec![])
+}
+
+fn command(input: &mut Input) -> u64 {
+    input.number(COMMANDS as u64)
+}
+
+fn span(input: &mut Input) -> Span {
+    Span {
+        start: input.number(WINDOW_BYTES as u64),
+        length: input.number(BYTES_PER_CALL as u64 + 1),
+    }
+}
+
+/// A span of which every byte is made.
+fn span_of_data(input: &mut Input) -> Span {
+    let Span { start, length } = span(input);
+    Span {
+        start,
+        length: length.min(MOST_DATA as u64),
+    }
+}
+
+/// Bytes of the input, and some made ones.
+fn given(input: &mut Input) -> Bytes {
+    let given = usize::from(input.byte());
+    Bytes {
+        given: input.bytes(given),
+        made: input.up_to(BYTES_PER_CALL as u64 + 1, MOST_DATA),
+    }
+}
+
+/// A frame, more often than not with as many bytes of data as its length says.
+fn write(input: &mut Input) -> Call {
+    let (kind, command, span) = (input.number(KINDS), command(input), span(input));
+    let fitting = span.length.min(MOST_DATA as u64) as usize;
+    let data = match input.byte() % 4 {
+        0 => 0,
+        1 => input.up_to(BYTES_PER_CALL as u64 + 1, MOST_DATA),
+        _ => fitting,
+    };
+    Call::Write {
+        kind,
+        command,
+        span,
+        data,
+    }
+}
+
+/// Another length of a buffer; it is the usual one as often.
+fn lend(input: &mut Input) -> Setting {
+    let buffer = NAMES[usize::from(input.byte()) % NAMES.len()];
+    let length = match input.byte() % 2 {
+        0 => buffer.usual(),
+        _ => input.up_to(buffer.usual() as u64, buffer.size()),
+    };
+    Setting::Lend { buffer, length }
+}
+
+/// A few words of a command.
+fn words(input: &mut Input) -> Setting {
+    let command = usize::from(input.byte()) % COMMANDS;
+    let place = usize::from(input.byte()) % PER_COMMAND;
+    let count = 1 + usize::from(input.byte()) % 6;
+    Setting::Words {
+        command,
+        place,
+        values: (0..count.min(PER_COMMAND - place))
+            .map(|_| input.number(1 << 16) as u16)
+            .collect(),
+    }
+}
+
+#[cfg(test)]
+mod tests {
+    use super::*;
+
+    #[test]
+    fn a_list_ends_with_its_bytes_or_is_full() {
+        assert!(lines(&[]).is_empty());
+        assert_eq!(lines(&[0]).len(), 1);
+        assert_eq!(lines(&[31; 1_000]).len(), LINES);
+    }
+
+    #[test]
+    fn calls_are_what_the_bytes_say() {
+        let begin = Call::Begin { command: 3 };
+        let span = Span {
+            start: 64,
+            length: 9,
+        };
+        let fetch = Call::Fetch { command: 3, span };
+        let bytes = [0, 0, 3, 4, 0, 3, 0, 64, 0, 9];
+        let wanted = [begin, fetch].map(|call| Line::Call(call, vec![]));
+        assert_eq!(lines(&bytes), wanted);
+    }
+}
