@@ -23,86 +23,104 @@ Inv-loop part₀ source base words fresh first low gap₀ old₀ top₀ k₀ par
 abbrev μ-loop : tie.MeasureT-loop
 μ-loop part₀ source base words fresh first low gap₀ old₀ top₀ k₀ part gap old top k = k
 
+-- what is given
+module _ (s : tie.Start Inv-loop μ-loop) where
+  abbrev ws : List ℕ
+  ws = now (s .args .words)
+
+  abbrev p : CommandState
+  p = commandIn ws
+
+  abbrev rs : List Record
+  rs = recordsIn p
+
+  abbrev m : Meeting
+  m = s .args .m
+
+  abbrev l : List ℕ
+  l = now (s .args .part)
+
+  abbrev b : ℕ
+  b = s .args .base
+
+  abbrev w : List ℕ
+  w = now (s .args .source)
+
+  fits : Fits p m (s .args .fresh) (length l) b (length w)
+  fits = s .pre .1
+
 add-old : tie.Need-add-old Inv-loop μ-loop
 add-old c =
-    let e = c .before .before .before .before in
-    let fits = e .pre .1 in
-    let rs = recordsIn (commandIn (now (e .args .words))) in
-    let part = now (e .args .part) in
-    let source = now (e .args .source) in
-    let begun = filling-start rs part (e .args .base) source (e .args .m) (e .args .fresh) (fits .cut) (fits .room) in
-    omega (arith, filling-room rs part (e .args .base) source (e .args .m) _ (fits .cut) (fits .room) _ _ _ _ _ begun)
+    let s = c .before .before .before .before in
+    let begun = filling-start (rs s) (l s) (b s) (w s) (m s) (s .args .fresh) (fits s .cut) (fits s .room) in
+    omega (arith, filling-room (rs s) (l s) (b s) (w s) (m s) _ (fits s .cut) (fits s .room) _ _ _ _ _ begun)
 
 loop-holds : tie.Need-loop-holds Inv-loop μ-loop
 loop-holds c =
-    let args = c .before .before .before .before .args in
-    let fits = c .before .before .before .before .pre .1 in
-    filling-start (recordsIn (commandIn (now (args .words)))) (now (args .part)) (args .base) (now (args .source)) (args .m) (args .fresh) (fits .cut) (fits .room)
+    let s = c .before .before .before .before in
+    filling-start (rs s) (l s) (b s) (w s) (m s) (s .args .fresh) (fits s .cut) (fits s .room)
 
 -- a turn of the loop
 module _ (c : tie.In-loop Inv-loop μ-loop) where
-  abbrev p : CommandState
-  p = commandIn (now (c .before .before .before .before .before .before .args .words))
+  abbrev s : tie.Start Inv-loop μ-loop
+  s = c .before .before .before .before .before .before
 
-  abbrev m : Meeting
-  m = c .before .before .before .before .before .before .args .m
-
-  abbrev l : List ℕ
-  l = now (c .before .before .before .before .before .before .args .part)
-
-  abbrev b : ℕ
-  b = c .before .before .before .before .before .before .args .base
-
-  abbrev w : List ℕ
-  w = now (c .before .before .before .before .before .before .args .source)
-
-  fits : Fits p m (c .before .before .before .before .before .before .args .fresh) (length l) b (length w)
-  fits = c .before .before .before .before .before .before .pre .1
+  abbrev v : tie.At-loop Inv-loop μ-loop
+  v = c .before
 
   abbrev q : ℕ
-  q = c .before .loop .k - 1
+  q = v .loop .k - 1
 
-  here : Filling (recordsIn p) l b w (m .first) (m .last) (m .low) (m .high) (suc q) (c .before .loop .gap) (c .before .loop .old) (c .before .loop .top) (c .before .loop .part)
+  here : Filling (rs s) (l s) (b s) (w s) (m s .first) (m s .last) (m s .low) (m s .high)
+      (suc q) (v .loop .gap) (v .loop .old) (v .loop .top) (v .loop .part)
   here =
-      let k : c .before .loop .k ≡ suc q = omega arith in
-      subst (λ (k : ℕ). Filling (recordsIn p) l b w (m .first) (m .last) (m .low) (m .high) k (c .before .loop .gap) (c .before .loop .old) (c .before .loop .top) (c .before .loop .part))
-      k (c .before .loop .inv)
+      let k : v .loop .k ≡ suc q = omega arith in
+      subst
+      (λ (k : ℕ). Filling (rs s) (l s) (b s) (w s) (m s .first) (m s .last) (m s .low) (m s .high)
+      k (v .loop .gap) (v .loop .old) (v .loop .top) (v .loop .part))
+      k (v .loop .inv)
 
-  inside : q < length (recordsIn p)
-  inside = omega (arith, here .upto, fits .cut .most)
+  inside : q < length (rs s)
+  inside = omega (arith, here .upto, fits s .cut .most)
 
-  first : m .first ≤ q
+  first : m s .first ≤ q
   first = omega arith
 
   below : q < 64
-  below = omega (arith, inside, fits .few)
+  below = omega (arith, inside, fits s .few)
 
-  own : recordAt (now (c .before .before .before .before .before .before .args .words)) q ≡ getD (recordsIn p) q noRecord
+  own : recordAt (ws s) q ≡ getD (rs s) q noRecord
   own =
-      let short : q < p .count = omega (arith, inside, length-take (p .count) (p .records)) in
-      sym (getD-take (p .count) (p .records) q noRecord short ∙ entry-at (now (c .before .before .before .before .before .before .args .words)) q below)
+      let short : q < p s .count = omega (arith, inside, length-take (p s .count) (p s .records)) in
+      sym (getD-take (p s .count) (p s .records) q noRecord short ∙ entry-at (ws s) q below)
 
 entry-requires : tie.Need-entry-requires Inv-loop μ-loop
-entry-requires c κs = (c .before .before .before .before .before .before .pre .0, below c)
+entry-requires c κs = (s c .pre .0, below c)
 
 module _ (c : tie.After-wide2 Inv-loop μ-loop) where
   abbrev i : tie.In-loop Inv-loop μ-loop
   i = c .before .before .before
 
-  read : c .before .before .entry .result ≡ getD (recordsIn (p i)) (q i) noRecord
+  abbrev o : tie.Start Inv-loop μ-loop
+  o = s i
+
+  read : c .before .before .entry .result ≡ getD (rs o) (q i) noRecord
   read = c .before .before .entry .ensures ∙ own i
 
-  start-is : c .before .wide .result ≡ getD (recordsIn (p i)) (q i) noRecord .start
+  start-is : c .before .wide .result ≡ getD (rs o) (q i) noRecord .start
   start-is = c .before .wide .ensures .0 ∙ ap (λ (r : Record). r .start) read
 
-  len-is : c .wide2 .result ≡ getD (recordsIn (p i)) (q i) noRecord .len
+  len-is : c .wide2 .result ≡ getD (rs o) (q i) noRecord .len
   len-is = c .wide2 .ensures .0 ∙ ap (λ (r : Record). r .len) read
 
-  turning : Turn (recordsIn (p i)) (l i) (b i) (w i) (m i .first) (m i .last) (m i .low) (m i .high) (q i) (i .before .loop .gap) (i .before .loop .old) (i .before .loop .top) (i .before .loop .part) (c .before .wide .result) (c .wide2 .result)
-  turning = turn (recordsIn (p i)) (l i) (b i) (w i) (m i) _ (fits i .cut) (fits i .room) (q i) (inside i) _ _ _ _ (here i) (first i) (c .before .wide .result) (c .wide2 .result) start-is len-is
+  turning : Turn (rs o) (l o) (b o) (w o) (m o .first) (m o .last) (m o .low) (m o .high)
+      (q i) (v i .loop .gap) (v i .loop .old) (v i .loop .top) (v i .loop .part) (c .before .wide .result) (c .wide2 .result)
+  turning =
+      turn (rs o) (l o) (b o) (w o) (m o) _ (fits o .cut) (fits o .room) (q i) (inside i) _ _ _ _ (here i) (first i)
+      (c .before .wide .result) (c .wide2 .result) start-is len-is
 
-  room : i .before .loop .old + i .before .loop .gap ≤ length (l i)
-  room = filling-room (recordsIn (p i)) (l i) (b i) (w i) (m i) _ (fits i .cut) (fits i .room) _ _ _ _ _ (here i)
+  room : v i .loop .old + v i .loop .gap ≤ length (l o)
+  room = filling-room (rs o) (l o) (b o) (w o) (m o) _ (fits o .cut) (fits o .room) _ _ _ _ _ (here i)
 
 sub-gap : tie.Need-sub-gap Inv-loop μ-loop
 sub-gap c = turning c .ends
@@ -127,44 +145,41 @@ loop-again c =
 
 -- after the last turn
 module _ (c : tie.After-loop Inv-loop μ-loop) where
-  abbrev p′ : CommandState
-  p′ = commandIn (now (c .before .before .before .before .before .before .args .words))
+  abbrev s′ : tie.Start Inv-loop μ-loop
+  s′ = c .before .before .before .before .before .before
 
-  abbrev m′ : Meeting
-  m′ = c .before .before .before .before .before .before .args .m
+  abbrev v′ : tie.At-loop Inv-loop μ-loop
+  v′ = c .before
 
-  abbrev l′ : List ℕ
-  l′ = now (c .before .before .before .before .before .before .args .part)
-
-  abbrev b′ : ℕ
-  b′ = c .before .before .before .before .before .before .args .base
-
-  abbrev w′ : List ℕ
-  w′ = now (c .before .before .before .before .before .before .args .source)
-
-  fits′ : Fits p′ m′ (c .before .before .before .before .before .before .args .fresh) (length l′) b′ (length w′)
-  fits′ = c .before .before .before .before .before .before .pre .1
-
-  none-left : Filling (recordsIn p′) l′ b′ w′ (m′ .first) (m′ .last) (m′ .low) (m′ .high) (m′ .first) (c .before .loop .gap) (c .before .loop .old) (c .before .loop .top) (c .before .loop .part)
+  none-left : Filling (rs s′) (l s′) (b s′) (w s′) (m s′ .first) (m s′ .last) (m s′ .low) (m s′ .high)
+      (m s′ .first) (v′ .loop .gap) (v′ .loop .old) (v′ .loop .top) (v′ .loop .part)
   none-left =
-      let all : c .before .loop .k ≡ m′ .first = omega (arith, c .before .loop .inv .from) in
-      subst (λ (k : ℕ). Filling (recordsIn p′) l′ b′ w′ (m′ .first) (m′ .last) (m′ .low) (m′ .high) k (c .before .loop .gap) (c .before .loop .old) (c .before .loop .top) (c .before .loop .part))
-      all (c .before .loop .inv)
+      let all : v′ .loop .k ≡ m s′ .first = omega (arith, v′ .loop .inv .from) in
+      subst
+      (λ (k : ℕ). Filling (rs s′) (l s′) (b s′) (w s′) (m s′ .first) (m s′ .last) (m s′ .low) (m s′ .high)
+      k (v′ .loop .gap) (v′ .loop .old) (v′ .loop .top) (v′ .loop .part))
+      all (v′ .loop .inv)
 
 read-host-requires-2 : tie.Need-read-host-requires-2 Inv-loop μ-loop
 read-host-requires-2 c κs =
     let e = c .before in
-    last-inside (recordsIn (p′ e)) (l′ e) (b′ e) (w′ e) (m′ e) _ (fits′ e .cut) (fits′ e .room) _ _ _ _ (none-left e)
+    let o = s′ e in
+    last-inside (rs o) (l o) (b o) (w o) (m o) _ (fits o .cut) (fits o .room) _ _ _ _ (none-left e)
 
 module _ (c : tie.After-read-host2 Inv-loop μ-loop) where
   abbrev e : tie.After-loop Inv-loop μ-loop
   e = c .before .before
 
-  ended : c .read-host2 .last .0 ≡ filled (recordsIn (p′ e)) (m′ e) (l′ e) (b′ e) (w′ e)
-  ended = c .read-host2 .ensures ∙ filling-end (recordsIn (p′ e)) (l′ e) (b′ e) (w′ e) (m′ e) _ (fits′ e .cut) (fits′ e .room) _ _ _ _ (none-left e)
+  abbrev o′ : tie.Start Inv-loop μ-loop
+  o′ = s′ e
 
-  same : length (c .read-host2 .last .0) ≡ length (l′ e)
-  same = ap length ended ∙ filled-size (recordsIn (p′ e)) (l′ e) (b′ e) (w′ e) (m′ e) _ (fits′ e .cut) (fits′ e .room)
+  ended : c .read-host2 .last .0 ≡ filled (rs o′) (m o′) (l o′) (b o′) (w o′)
+  ended =
+      c .read-host2 .ensures
+      ∙ filling-end (rs o′) (l o′) (b o′) (w o′) (m o′) _ (fits o′ .cut) (fits o′ .room) _ _ _ _ (none-left e)
+
+  same : length (c .read-host2 .last .0) ≡ length (l o′)
+  same = ap length ended ∙ filled-size (rs o′) (l o′) (b o′) (w o′) (m o′) _ (fits o′ .cut) (fits o′ .room)
 
 same-length : tie.Need-same-length Inv-loop μ-loop
 same-length c = same (c .before .before)
