@@ -4,7 +4,8 @@
  * Firmware reads a host's descriptor once to check it and once to use it, and the host may change
  * it in between. This cache stands between the two: for each command it reads a host byte once,
  * keeps it, and gives the same byte again until the command ends. The functions are proved in the
- * language Rattle to do what the agreed scope says; this header says it in short.
+ * language Rattle to do what the agreed scope says; this header says it in short, docs/RULES.md in
+ * full.
  *
  * Words
  *   window       host memory that is lent to a call: bytes, addressed from 0

@@ -1,4 +1,5 @@
-//! The book of records and its own rules ("The book and the store" in 01).
+//! The book of records and its own rules ("The book and the store" in 01, the
+//! agreed scope; docs/RULES.md has its rules).
 
 use crate::limits::{COMMANDS, HELD_PER_COMMAND, RECORDS_PER_COMMAND, WINDOW_BYTES};
 
@@ -71,7 +72,7 @@ impl CommandBook {
     }
 
     /// The records of a command that holds together.
-    pub(crate) fn records(&self) -> &[Span] {
+    pub fn records(&self) -> &[Span] {
         self.used_and_unused().map_or(&[], |(used, _)| used)
     }
 

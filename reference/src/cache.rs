@@ -1,5 +1,6 @@
-//! The six calls ("The calls" in 01). Numbers may have any value; a refused
-//! call changes nothing that was lent to it.
+//! The six calls ("The calls" in 01, the agreed scope; docs/RULES.md has its
+//! rules). Numbers may have any value; a refused call changes nothing that was
+//! lent to it.
 
 use std::ops::Range;
 

@@ -1,4 +1,5 @@
-//! The reader and the writer of frames ("Step frames" in 01).
+//! The reader and the writer of frames ("Step frames" in 01, the agreed scope;
+//! docs/RULES.md has its rules).
 
 use crate::limits::{BYTES_PER_CALL, COMMANDS, WINDOW_BYTES};
 use crate::refusal::{refuse_lowest, Refusal};

@@ -14,7 +14,7 @@ pub struct Held {
 impl Held {
     /// Reads a command's records, and its bytes from the front of its store
     /// part, where they are packed by ascending address ("The book and the
-    /// store" in 01).
+    /// store" in 01, the agreed scope; docs/RULES.md has its rules).
     pub fn unpack(command: &CommandBook, part: &[u8]) -> Held {
         let spans = command.records().to_vec();
         let addresses = spans.iter().flat_map(|span| span.addresses());

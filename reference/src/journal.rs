@@ -1,5 +1,6 @@
 //! A journal of frames, carried out one after the other on lent buffers of any
-//! bytes and lengths ("The log program" in 01).
+//! bytes and lengths ("The log program" in 01, the agreed scope; docs/RULES.md
+//! has its rules).
 
 use crate::book::Book;
 use crate::cache;

@@ -1,4 +1,5 @@
-//! A second opinion on the command fetch cache, written from document 01 alone.
+//! A second opinion on the command fetch cache, written from document 01 (the
+//! agreed scope; docs/RULES.md has its rules) alone.
 //!
 //! A fetch is worked out here through a map from address to held byte beside
 //! a list of spans, and only then packed back into the book and the store.

@@ -1,4 +1,5 @@
-//! The constants of the device ("Bounds of the device" in 01).
+//! The constants of the device ("Bounds of the device" in 01, the agreed scope;
+//! docs/RULES.md has its rules).
 
 /// How many commands there are; they are numbered from 0.
 pub const COMMANDS: usize = 8;

@@ -1,4 +1,5 @@
-//! The log program as a function ("The log program" in 01).
+//! The log program as a function ("The log program" in 01, the agreed scope;
+//! docs/RULES.md has its rules).
 
 use crate::journal::{self, Lent};
 use crate::limits::{BYTES_PER_CALL, STORE_BYTES};

@@ -1,5 +1,6 @@
 //! The numbers of the two lists "Turned away because of the input" and
-//! "Turned away because of the state" in 01.
+//! "Turned away because of the state" in 01 (the agreed scope; docs/RULES.md has
+//! its rules).
 
 /// Why a call or a frame is turned away. The order of the cases is the order
 /// of their numbers.

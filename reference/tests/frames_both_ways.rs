@@ -1,5 +1,6 @@
 //! The reader undoes the writer, and each frame that is read is the one that
-//! the writer makes, both held against the bit layout of 01.
+//! the writer makes, both held against the bit layout of 01 (the agreed scope;
+//! docs/RULES.md has its rules).
 
 use reference::frames::{read_frame, write_frame, Frame, Step};
 use sampling::generator::Generator;

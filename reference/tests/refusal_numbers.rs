@@ -1,4 +1,5 @@
-//! Each named case has the number that 01 gives it.
+//! Each named case has the number that 01 (the agreed scope; docs/RULES.md has
+//! its rules) gives it.
 
 use reference::refusal::Refusal;
 

@@ -1,4 +1,5 @@
-//! The marked situations A to K of 01, each for all eight commands.
+//! The marked situations A to K of 01 (the agreed scope; docs/RULES.md has its
+//! rules), each for all eight commands.
 
 use reference::frames::read_frame;
 

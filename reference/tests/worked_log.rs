@@ -1,4 +1,5 @@
-//! The worked log of 01, byte for byte, and the example files that hold it.
+//! The worked log of 01 (the agreed scope; docs/RULES.md has its rules), byte
+//! for byte, and the example files that hold it.
 
 use reference::log;
 

@@ -6,7 +6,7 @@
 #include <stdio.h>
 #include <string.h>
 
-/* The worked example of the agreed scope, and its log. */
+/* The worked example of the agreed scope (docs/RULES.md has its rules), and its log. */
 static const uint8_t worked[] = {
     0x08, 0x00, 0x00, 0x00, 0x00,                         /* begin 2 */
     0x60, 0x00, 0x40, 0x00, 0x80, 0x61, 0x62, 0x63, 0x64, /* the host writes abcd at 16 */

@@ -1,4 +1,5 @@
--- 01's begin: the command is open and holds nothing, and its part of the store is zeroed.
+-- Begin, as in 01 (the agreed scope; docs/RULES.md has its rules): the command is open and holds nothing, and its part of the store is
+-- zeroed.
 use Prim.Native.Nat.{ℕ}
 use mathlib.Core.Path.{_≡_}
 use mathlib.Core.List.{List, [], _∷_}

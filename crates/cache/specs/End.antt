@@ -1,5 +1,5 @@
--- 01's end: the command is closed, its part of the store is zeroed, and the reply tells how many records and distinct bytes it
--- held.
+-- End, as in 01 (the agreed scope; docs/RULES.md has its rules): the command is closed, its part of the store is zeroed, and the reply
+-- tells how many records and distinct bytes it held.
 use Prim.Native.Nat.{ℕ}
 use mathlib.Core.Path.{_≡_}
 use mathlib.Core.List.{List, [], _∷_}

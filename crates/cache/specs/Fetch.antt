@@ -1,5 +1,5 @@
--- 01's fetch: the span goes to the destination, and its bytes are held. The answer and the state depend on the lengths of the
--- buffers and on no byte in them.
+-- Fetch, as in 01 (the agreed scope; docs/RULES.md has its rules): the span goes to the destination, and its bytes are held. The answer
+-- and the state depend on the lengths of the buffers and on no byte in them.
 use Prim.Native.Nat.{ℕ, _-_}
 use mathlib.Core.List.{List, [], _∷_, _++_, map}
 use mathlib.Core.Bool.{cond}

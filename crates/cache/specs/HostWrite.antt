@@ -1,4 +1,5 @@
--- 01's host write: bytes go into the window, and the reply is their number. It takes neither state nor store.
+-- Host write, as in 01 (the agreed scope; docs/RULES.md has its rules): bytes go into the window, and the reply is their number. It
+-- takes neither state nor store.
 use Prim.Native.Nat.{ℕ}
 use mathlib.Core.List.{List, [], _∷_}
 use mathlib.Core.Bool.{cond}

@@ -1,4 +1,5 @@
--- 01's own write: a host write made by an open command. It takes no store, and the state only to look at it.
+-- Own write, as in 01 (the agreed scope; docs/RULES.md has its rules): a host write made by an open command. It takes no store, and the
+-- state only to look at it.
 use Prim.Native.Nat.{ℕ}
 use mathlib.Core.List.{List, [], _∷_}
 use mathlib.Core.Bool.{cond}

@@ -1,4 +1,4 @@
--- A list of calls, run one after the other (01, "Two runs of one list").
+-- A list of calls, run one after the other (01, the agreed scope, "Two runs of one list"; docs/RULES.md has its rules).
 use Prim.Native.Nat.{ℕ}
 use mathlib.Core.List.{List, [], _∷_}
 use mathlib.Core.Bool.{cond}

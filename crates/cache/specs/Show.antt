@@ -1,4 +1,5 @@
--- 01's show: start and length of an open command's record, counted from 0. It changes nothing.
+-- Show, as in 01 (the agreed scope; docs/RULES.md has its rules): start and length of an open command's record, counted from 0. It
+-- changes nothing.
 use Prim.Native.Nat.{ℕ}
 use mathlib.Core.List.{List, [], _∷_}
 use lib.ListN.{getD}

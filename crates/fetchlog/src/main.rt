@@ -1,9 +1,13 @@
-// Reads a journal of frames on standard input, and prints its log: a line for each frame, up to the first that is unreadable.
-// Given any argument it prints how it is used.
+// Reads a journal of frames, and prints its log: a line for each frame, up to the first that is unreadable.
+use console::Asked;
 use libc::STDERR_FILENO;
-use libc::STDIN_FILENO;
 use libc::STDOUT_FILENO;
+use octets::put;
+use printing::LINE;
+use printing::Printed;
 use state::CacheState;
+
+mod printing;
 
 // One byte more than a journal may have, which tells that there are more.
 const INPUT: usize = journal::MOST + 1;
@@ -11,61 +15,109 @@ const INPUT: usize = journal::MOST + 1;
 // The window of the log program.
 const WINDOW: usize = 16384;
 
-// Room for the longest line.
-const LINE: usize = 8448;
+fn main() {
+    match console::arguments(b"fetchlog", 1) {
+        Asked::Input(fd) => run(fd),
+        Asked::Version => console::tell(b"fetchlog", b"fetchlog 1.0\n"),
+        Asked::Help => {
+            if !usage(STDOUT_FILENO) {
+                console::say_lost(b"fetchlog");
+            }
+        }
+        Asked::Wrong => {
+            usage(STDERR_FILENO);
+        }
+        Asked::Failed => {}
+    }
+}
 
-fn print_log(input: &[u8]) {
+fn usage(fd: i32) -> bool {
+    io::write_all(
+        fd,
+        b"usage: fetchlog [FRAMES] > LOG\n\
+        \x20      fetchlog --help | --version\n\
+        \n\
+        FRAMES is a file of step frames one behind the other, at most 32768 bytes;\n\
+        '-' or none is standard input. LOG has a line for each frame, up to the first\n\
+        that cannot be read.\n\
+        \n\
+        The exit status is always 0. A run that read its input and lost nothing ends,\n\
+        on standard error, with a line such as\n\
+        \n\
+        \x20 fetchlog: 9 frames, 9 ok, 0 refused\n\
+        \n\
+        and no other run ends in a number and 'refused'. So in a script:\n\
+        \n\
+        \x20 fetchlog FRAMES > LOG 2> NOTES; tail -n 1 NOTES | grep -qE ' [0-9]+ refused$'\n",
+    )
+}
+
+fn run(fd: i32) {
+    let mut input = [0u8; INPUT];
+    let reading = console::read_whole(fd, &mut input);
+    if !reading.whole {
+        console::say_unread(b"fetchlog");
+        return;
+    }
+    let n = reading.count;
+    if n > journal::MOST {
+        refuse(&input[..n]);
+        return;
+    }
+    print(&input[..n]);
+}
+
+// What document 01 (the agreed scope; docs/RULES.md has its rules) prints for an input that is too long.
+fn refuse(input: &[u8]) {
+    console::tell(b"fetchlog", b"input too long\n");
+    say_if_text(input);
+    console::say_text(b"fetchlog: the input is above 32768 bytes, no frame is run\n");
+}
+
+fn print(input: &[u8]) {
+    let mut state = CacheState::fresh();
     let mut store = [0u8; CacheState::STORE];
     let mut window = [0u8; WINDOW];
     let mut destination = [0u8; CacheState::TRANSFER];
     let mut line = [0u8; LINE];
-    let mut state = CacheState::fresh();
-    let mut number = 0;
-    let mut at = 0;
-    while at < input.len() {
-        let r = journal::log_frame(
-            number + 1,
-            &input[at..],
-            &mut state.words,
-            &mut store,
-            &mut window,
-            &mut destination,
-            &mut line,
-            0,
+    let printed = printing::print_log(
+        input,
+        &mut state.words,
+        &mut store,
+        &mut window,
+        &mut destination,
+        &mut line,
+    );
+    if printed.early {
+        say_if_text(input);
+    }
+    sum_up(printed);
+}
+
+// Steps that are given for frames.
+fn say_if_text(input: &[u8]) {
+    if console::looks_like_text(input) {
+        console::say_text(
+            b"fetchlog: the input looks like steps; framewriter makes frames of steps\n",
         );
-        let next = r.next;
-        io::write_all(STDOUT_FILENO, &line[..next]);
-        let taken = r.taken;
-        if taken == 0 {
-            return;
-        }
-        number = number + 1;
-        at = at + taken;
     }
 }
 
-fn run() {
-    let mut input = [0u8; INPUT];
-    let n = io::read_full(STDIN_FILENO, &mut input);
-    if n > journal::MOST {
-        let mut line = [0u8; LINE];
-        let next = log::put_too_long(&mut line, 0);
-        io::write_all(STDOUT_FILENO, &line[..next]);
-        return;
-    }
-    print_log(&input[..n]);
-}
-
-fn main() {
-    if os::arg_count() > 1 {
-        io::write_all(
-            STDERR_FILENO,
-            b"usage: fetchlog < FRAMES > LOG\n\
-            \n\
-            FRAMES are step frames one behind the other, at most 32768 bytes.\n\
-            LOG has a line for each, up to the first that cannot be read.\n",
-        );
-        return;
-    }
-    run();
+// The last line on standard error.
+fn sum_up(printed: Printed) {
+    let frames = printed.frames;
+    let kept = printed.kept;
+    let mut note = [0u8; console::NOTE];
+    let next = put(&mut note, 0, b"fetchlog: ");
+    let next = console::put_run(
+        &mut note,
+        next,
+        frames,
+        printed.carried,
+        printed.refused,
+        printed.early,
+    );
+    let next = console::put_lost(&mut note, next, b", log lost from line ", frames, kept);
+    let next = put(&mut note, next, b"\n");
+    console::say(&note, next);
 }

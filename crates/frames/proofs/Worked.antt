@@ -1,4 +1,5 @@
--- Frames of 01, read and written: those of its log, an own write, and the three of situation I.
+-- Frames of 01 (the agreed scope; docs/RULES.md has its rules), read and written: those of its log, an own write, and the three of
+-- situation I.
 use Prim.Native.Nat.{ℕ}
 use mathlib.Core.Path.{_≡_, refl}
 use mathlib.Core.List.{List, [], _∷_, map}

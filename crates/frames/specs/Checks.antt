@@ -1,4 +1,5 @@
--- The reasons to turn a frame away that no other call has, each stated once, in the order of 01's numbers.
+-- The reasons to turn a frame away that no other call has, each stated once, in the order of the numbers of 01 (the agreed
+-- scope; docs/RULES.md has its rules).
 use Prim.Native.Nat.{ℕ, _-_}
 use mathlib.Core.Bool.{Bool, true, not, _&&_, _||_}
 use lib.Dec.{ltb, leb, eqb}

@@ -1,4 +1,4 @@
--- The table of kinds (01, "Step frames"), in its order.
+-- The table of kinds (01, the agreed scope, "Step frames"; docs/RULES.md has its rules), in its order.
 use Prim.Native.Nat.{ℕ, _+_}
 use mathlib.Core.List.{List, [], _∷_}
 use mathlib.Core.Bool.{Bool, true, false, cond}

@@ -1,4 +1,4 @@
--- The head of a frame (01, "Step frames"): five bytes that hold five fields.
+-- The head of a frame (01, the agreed scope, "Step frames"; docs/RULES.md has its rules): five bytes that hold five fields.
 use Prim.Native.Nat.{ℕ}
 use mathlib.Core.List.{List, [], _∷_}
 use Rattle.frames.specs.declared.layout.Head.{Head}

@@ -1,4 +1,5 @@
--- 01's rule on which refusal is given, and its list of those that can apply to the reader and to the writer.
+-- The rule of 01 (the agreed scope; docs/RULES.md has its rules) on which refusal is given, and its list of those that can apply to the
+-- reader and to the writer.
 use Prim.Native.Nat.{ℕ}
 use mathlib.Core.Path.{_≡_}
 use mathlib.Core.List.{List, [], _∷_, map}

@@ -1,4 +1,5 @@
--- Reading a frame (01, "Step frames"): the step and the number of bytes that it took up, or a refusal.
+-- Reading a frame (01, the agreed scope, "Step frames"; docs/RULES.md has its rules): the step and the number of bytes that it took up,
+-- or a refusal.
 use Prim.Native.Nat.{ℕ, _-_}
 use mathlib.Core.List.{List, [], _∷_}
 use mathlib.Core.Bool.{cond, _&&_}

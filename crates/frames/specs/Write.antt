@@ -1,4 +1,5 @@
--- Writing a frame (01, "Step frames"): its bytes go to the front of the output, and the reply is their number.
+-- Writing a frame (01, the agreed scope, "Step frames"; docs/RULES.md has its rules): its bytes go to the front of the output, and the
+-- reply is their number.
 use Prim.Native.Nat.{ℕ}
 use mathlib.Core.List.{List, [], _∷_, _++_}
 use mathlib.Core.Bool.{cond}

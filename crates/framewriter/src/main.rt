@@ -1,141 +1,161 @@
-// Reads steps on standard input, one a line, and writes their frames to standard output. The first line that has no frame ends the
-// run: its number, its text and the reason go to standard error. Given any argument the program prints how it is used.
+// Reads steps, one a line, and writes their frames. All lines are judged first: if one of them has no frame, nothing is written.
+use console::Asked;
 use libc::STDERR_FILENO;
-use libc::STDIN_FILENO;
 use libc::STDOUT_FILENO;
+use octets::one_if;
+use octets::put;
+use script::Judged;
+use script::Judgement;
 use state::CacheState;
-use state::Refusal;
-use steps::Fault;
 use steps::Framed;
 use steps::Stop;
-ghost use mathlib.Core.Path.{_≡_};
-ghost use Prim.Native.Nat.{_≤_};
-ghost use lib.ListN.{length};
 
-// The most bytes of an input.
-const MOST: usize = 1048576;
-
-// One more, which tells that there are more.
-const INPUT: usize = MOST + 1;
-
-// Room for the longest frame.
-const FRAME: usize = CacheState::TRANSFER + 5;
+// The most bytes of a journal that fetchlog takes.
+const JOURNAL: usize = 32768;
 
 fn main() {
-    if os::arg_count() > 1 {
-        say(
-            b"usage: framewriter < STEPS > FRAMES\n\
-            \n\
-            A line of STEPS is one step, or blank:\n\
-            \n\
-            \x20 B COMMAND                  begin\n\
-            \x20 F COMMAND ADDRESS LENGTH   fetch\n\
-            \x20 E COMMAND                  end\n\
-            \x20 H ADDRESS [DATA]           host write\n\
-            \x20 W COMMAND ADDRESS [DATA]   own write\n\
-            \n\
-            Numbers are decimal. DATA are hexadecimal digits, two a byte, or '-'.\n\
-            '#' starts a comment.\n",
-        );
+    match console::arguments(b"framewriter", 1) {
+        Asked::Input(fd) => run(fd),
+        Asked::Version => console::tell(b"framewriter", b"framewriter 1.0\n"),
+        Asked::Help => {
+            if !usage(STDOUT_FILENO) {
+                console::say_lost(b"framewriter");
+            }
+        }
+        Asked::Wrong => {
+            usage(STDERR_FILENO);
+        }
+        Asked::Failed => {}
+    }
+}
+
+fn usage(fd: i32) -> bool {
+    io::write_all(
+        fd,
+        b"usage: framewriter [STEPS] > FRAMES\n\
+        \x20      framewriter --help | --version\n\
+        \n\
+        STEPS is a file of at most 1048576 bytes; '-' or none is standard input.\n\
+        A line is one step, or blank:\n\
+        \n\
+        \x20 B COMMAND                  begin\n\
+        \x20 F COMMAND ADDRESS LENGTH   fetch\n\
+        \x20 E COMMAND                  end\n\
+        \x20 H ADDRESS [DATA]           host write\n\
+        \x20 W COMMAND ADDRESS [DATA]   own write\n\
+        \n\
+        Numbers are decimal. DATA are hexadecimal digits, two a byte, or '-'.\n\
+        '=' and what is expected may follow, which 'explain' checks. '#' starts a\n\
+        comment. If a line is bad, every bad line is told and nothing is written.\n\
+        \n\
+        The exit status is always 0. A run that wrote all frames ends, on standard\n\
+        error, with a line such as\n\
+        \n\
+        \x20 framewriter: 9 frames, 55 bytes\n\
+        \n\
+        and no other run ends in a number and 'bytes'. So in a script:\n\
+        \n\
+        \x20 framewriter STEPS > FRAMES 2> NOTES; tail -n 1 NOTES | grep -qE ' [0-9]+ bytes$'\n",
+    )
+}
+
+fn run(fd: i32) {
+    let mut input = script::room();
+    let reading = console::read_whole(fd, &mut input);
+    if !reading.whole {
+        console::say_unread(b"framewriter");
         return;
     }
-    run();
+    let n = reading.count;
+    write(&input[..n]);
 }
 
-// Room for an input. The contract gives the length alone, which is all that the caller needs.
-fn room() -> [u8; INPUT]
-    ensures { λ r. ⌜ length r ≡ 1048577 ⌝ }
-{
-    [0u8; INPUT]
-}
-
-fn run() {
-    let mut input = room();
-    let n = io::read_full(STDIN_FILENO, &mut input);
-    if n > MOST {
-        say(b"input above 1048576 bytes\n");
-        return;
+fn write(input: &[u8]) {
+    match script::judge(b"framewriter", input) {
+        Judgement::TooLong => {
+            console::say_text(
+                b"framewriter: the input is above 1048576 bytes, nothing is written\n",
+            )
+        }
+        Judgement::Lines(judged) => {
+            if 0 < judged.bad {
+                say_bad(judged.bad);
+            } else {
+                let kept = write_frames(input);
+                sum_up(judged, kept);
+            }
+        }
     }
-    write_frames(&input[..n]);
 }
 
-fn write_frames(input: &[u8])
-    requires { ⌜ length (now input) ≤ 1048576 ⌝ }
-{
+fn say_bad(bad: usize) {
+    let mut note = [0u8; console::NOTE];
+    let next = put(&mut note, 0, b"framewriter: ");
+    let next = console::put_count(&mut note, next, bad, b"bad line");
+    let next = put(&mut note, next, b", nothing is written\n");
+    console::say(&note, next);
+}
+
+// What became of a line: whether it had a frame that was written, and whether it had one that could not be.
+struct Written {
+    kept: bool,
+    lost: bool,
+}
+
+fn put_out(frame: &[u8]) -> Written {
+    let kept = io::write_all(STDOUT_FILENO, frame);
+    if !kept {
+        console::say_lost(b"framewriter");
+    }
+    Written { kept, lost: !kept }
+}
+
+fn write_frame(line: &[u8], buffer: &mut [u8], frame: &mut [u8]) -> Written {
+    match steps::frame_of(line, buffer, frame) {
+        Framed::Frame(size) => {
+            let n = console::within(frame, size);
+            put_out(&frame[..n])
+        }
+        _ => Written {
+            kept: false,
+            lost: false,
+        },
+    }
+}
+
+// Writes the frames of the lines, up to the first that cannot be written. Tells how many were.
+fn write_frames(input: &[u8]) -> usize {
     let mut buffer = [0u8; CacheState::TRANSFER];
-    let mut frame = [0u8; FRAME];
-    let mut number = 0;
+    let mut frame = [0u8; script::FRAME];
+    let mut kept = 0;
     let mut at = 0;
     while at < input.len() {
         let end = steps::until(input, at, Stop::LineEnd);
-        number += 1;
-        if !write_frame(number, &input[at..end], &mut buffer, &mut frame) {
-            return;
+        let written = write_frame(&input[at..end], &mut buffer, &mut frame);
+        kept += one_if(written.kept);
+        if written.lost {
+            return kept;
+        }
+        if input.len() <= end {
+            return kept;
         }
         at = end + 1;
     }
+    kept
 }
 
-// Writes the frame of a line, if the line is not blank. Tells whether to go on.
-fn write_frame(number: usize, line: &[u8], buffer: &mut [u8], frame: &mut [u8]) -> bool {
-    match steps::frame_of(line, buffer, frame) {
-        Framed::Nothing => true,
-        Framed::Frame(size) => put_out(&frame[..size]),
-        Framed::Bad(fault) => {
-            say_line(number, line);
-            say_fault(fault);
-            false
-        }
-        Framed::Refused(refusal) => {
-            say_line(number, line);
-            say_refusal(refusal);
-            false
-        }
+// The last line on standard error, and before it a word on a journal that is too long.
+fn sum_up(judged: Judged, kept: usize) {
+    if JOURNAL < judged.bytes {
+        console::say_text(b"framewriter: more than 32768 bytes, which fetchlog refuses\n");
     }
-}
-
-fn put_out(frame: &[u8]) -> bool {
-    let done = io::write_all(STDOUT_FILENO, frame);
-    if !done {
-        say(b"standard output cannot be written\n");
-    }
-    done
-}
-
-fn say(text: &[u8]) {
-    io::write_all(STDERR_FILENO, text);
-}
-
-fn say_line(number: usize, line: &[u8]) {
-    say(b"line ");
-    io::print_decimal(STDERR_FILENO, number as u64);
-    say(b": ");
-    say(line);
-    say(b": ");
-}
-
-fn say_fault(fault: Fault) {
-    match fault {
-        Fault::UnknownLetter => say(b"no kind of step has this letter\n"),
-        Fault::FieldMissing => say(b"a field is missing\n"),
-        Fault::NotANumber => say(b"not a decimal number\n"),
-        Fault::NotHexadecimal => say(b"data not hexadecimal\n"),
-        Fault::OddDigits => say(b"data with an odd number of digits\n"),
-        Fault::FieldTooMany => say(b"a field too many\n"),
-        Fault::Sound => say(b"no fault\n"),
-    }
-}
-
-// The reason in words, and its number in document 01. The writer gives no other refusal of a line.
-fn say_refusal(refusal: Refusal) {
-    match refusal {
-        Refusal::LengthTooLong => say(b"length above 4096"),
-        Refusal::DataMismatch => say(b"data for a step that has none"),
-        Refusal::CommandTooHigh => say(b"command above 7"),
-        Refusal::AddressTooHigh => say(b"address above 65535"),
-        _ => say(b"refused"),
-    }
-    say(b" (");
-    io::print_decimal(STDERR_FILENO, refusal.number() as u64);
-    say(b")\n");
+    let frames = judged.frames;
+    let mut note = [0u8; console::NOTE];
+    let next = put(&mut note, 0, b"framewriter: ");
+    let next = console::put_count(&mut note, next, frames, b"frame");
+    let next = put(&mut note, next, b", ");
+    let next = console::put_count(&mut note, next, judged.bytes, b"byte");
+    let next = console::put_lost(&mut note, next, b", lost from frame ", frames, kept);
+    let next = put(&mut note, next, b"\n");
+    console::say(&note, next);
 }

@@ -1,4 +1,4 @@
--- Demand 2, the delivery rule, over every list of calls.
+-- Demand 2 (docs/EVIDENCE.md lists the demands), the delivery rule, over every list of calls.
 use Prim.Native.Nat.{ℕ, _+_}
 use mathlib.Core.Path.{_≡_, refl, ap, ap₂, sym, fun-ext, _∙_}
 use mathlib.Core.List.{List, [], _∷_, map}

@@ -1,4 +1,5 @@
--- Demand 3, the equal-runs rule, over every two lists of calls that have all in common but the bytes of windows and of host writes.
+-- Demand 3 (docs/EVIDENCE.md lists the demands), the equal-runs rule, over every two lists of calls that have all in common but the bytes
+-- of windows and of host writes.
 use Prim.Native.Nat.{ℕ}
 use mathlib.Core.Path.{_≡_, refl, ap, ap₂, sym, _∙_}
 use mathlib.Core.List.{List, [], _∷_, map}

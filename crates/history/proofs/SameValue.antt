@@ -1,4 +1,4 @@
--- Midas' invariant: until its next begin, a command gets one value at each address that it fetches.
+-- Midas' invariant (docs/RULES.md says what Midas is): until its next begin, a command gets one value at each address that it fetches.
 use Prim.Native.Nat.{ℕ, _+_, _-_, _<_}
 use native.Mathlib.Omega.{arith}
 use mathlib.Core.Path.{_≡_, refl, ap, sym, _∙_}

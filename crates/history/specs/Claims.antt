@@ -1,5 +1,6 @@
 -- The claims about whole lists of calls, refused ones included, from the fresh state and a store of any bytes and any length; and
--- at the end those about one call, whatever state and store it is given.
+-- at the end those about one call, whatever state and store it is given. Demands are those of docs/EVIDENCE.md, and 01 is the agreed
+-- scope (docs/RULES.md has its rules, and says what Midas is).
 use Prim.Native.Nat.{ℕ, _+_, _-_, _<_}
 use mathlib.Core.Path.{_≡_}
 use mathlib.Core.List.{List, [], _∷_, map}

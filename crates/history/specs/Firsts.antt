@@ -1,5 +1,5 @@
 -- Which fetch of an address is a command's first since its begin, and which bytes are owed by it, told from the journal
--- (01, "Two runs of one list").
+-- (01, the agreed scope, "Two runs of one list"; docs/RULES.md has its rules).
 use Prim.Native.Nat.{ℕ}
 use mathlib.Core.List.{List, [], _∷_, map}
 use mathlib.Core.Bool.{Bool, true, false, cond, _&&_}

@@ -2,4 +2,5 @@ pub mod Steps
 pub mod Frames
 pub mod Running
 pub mod Claims
+pub mod Fits
 pub mod Worked

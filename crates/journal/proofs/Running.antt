@@ -12,7 +12,7 @@ use Rattle.state.specs.Verdict.{Reply, refused, replied, accepted, numbersOf}
 use Rattle.frames.specs.Read.{readSays}
 use Rattle.frames.specs.Layout.{fieldsOf}
 use Rattle.frames.proofs.Accepted.{readable, reads}
-use Rattle.log.specs.Text.{Puts}
+use Rattle.octets.specs.Text.{Puts}
 use Rattle.log.specs.Line.{lineOf}
 use Rattle.log.proofs.Putting.{puts-is, puts-none, puts-both}
 use Rattle.journal.specs.Step.{Device, deviceOf}

@@ -1,4 +1,4 @@
--- The worked example of 01, from the definitions: its journal gives its log.
+-- The worked example of 01 (the agreed scope; docs/RULES.md has its rules), from the definitions: its journal gives its log.
 use mathlib.Core.Path.{_≡_, refl}
 use mathlib.Core.List.{[], _∷_}
 use lib.ListN.{replicate}
@@ -16,7 +16,8 @@ use Rattle.frames.specs.Layout.{fieldsOf}
 use Rattle.frames.specs.Checks.{notZero, zeroBroken}
 use Rattle.frames.specs.Kinds.{dataSize}
 use Rattle.frames.specs.Read.{fieldsSay, readSays}
-use Rattle.log.specs.Text.{ascii, digits, decimal, hexDigit, hexadecimal}
+use Rattle.octets.specs.Text.{ascii}
+use Rattle.log.specs.Text.{digits, decimal, hexDigit, hexadecimal}
 use Rattle.log.specs.Line.{deliveredFields, answerFields, spaced, lineOf}
 
 worked :

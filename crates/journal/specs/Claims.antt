@@ -1,5 +1,5 @@
--- A journal of frames is a list of calls, so that the claims over lists of calls hold of its log.
-use Prim.Native.Nat.{ℕ, zero, suc}
+-- A journal of frames is a list of calls, so that the claims over lists of calls hold of its log; and how long a line of the log can be.
+use Prim.Native.Nat.{ℕ, zero, suc, _+_, _^_, _≤_, _<_}
 use mathlib.Core.Path.{_≡_}
 use mathlib.Core.List.{List, [], _∷_, map}
 use mathlib.Core.Bool.{true, false, cond}
@@ -7,8 +7,9 @@ use lib.ListN.{length, drop}
 use Rattle.cache.specs.Runs.{Call, says, delivers, along, ran}
 use Rattle.history.specs.Journal.{journal, told}
 use Rattle.history.specs.Firsts.{owed}
+use Rattle.log.specs.Line.{lineOf}
 use Rattle.journal.specs.Step.{Device}
-use Rattle.journal.specs.Frame.{isReadable, takenUp, frameCall, frameLeaves}
+use Rattle.journal.specs.Frame.{isReadable, takenUp, letterOf, frameCall, frameSays, frameLeaves, frameDelivers}
 use Rattle.journal.specs.Run.{Entry, entries, journalLeaves, freshDevice}
 
 -- the calls of a journal's readable frames, in their order; each is given the window that the one before it left
@@ -40,3 +41,14 @@ LogDelivers =
     (store window dest input : List ℕ) →
     let d = freshDevice store window dest in
     map (λ e. e .delivered) (ofCalls (entries d input)) ≡ told owed [] (journal store (calls d input))
+
+-- the longest line of the log: its number of 20 digits, the letter, `ok`, two counts of 4 digits, 4,096 bytes in hexadecimal, and the
+-- newline; every field but the first has a blank before it
+abbrev pub longestLine : ℕ
+longestLine = 20 + 2 + 3 + 5 + 5 + 8193 + 1
+
+-- No line is longer than these 8,229 bytes, for any bytes as a frame and any state, if its number has no more than 20 digits.
+abbrev pub LineFits : Type 0
+LineFits =
+    (d : Device) (frame : List ℕ) (number : ℕ) → number < 10 ^ 20
+    → length (lineOf number (letterOf frame) (frameSays d frame) (frameDelivers d frame)) ≤ longestLine

@@ -1,4 +1,5 @@
--- One frame carried out, for any bytes (01, "The log program"): it is read and its call is made, or the reader's refusal is the answer.
+-- One frame carried out, for any bytes (01, the agreed scope, "The log program"; docs/RULES.md has its rules): it is read and its call is
+-- made, or the reader's refusal is the answer.
 use Prim.Native.Nat.{ℕ, _≤_}
 use Prim.Native.Char.{code}
 use mathlib.Core.Path.{_≡_}

@@ -1,5 +1,5 @@
--- A whole journal, for any bytes (01, "The log program"): frame after frame is carried out on what the one before it left, and an
--- unreadable frame ends the run.
+-- A whole journal, for any bytes (01, the agreed scope, "The log program"; docs/RULES.md has its rules): frame after frame is carried out
+-- on what the one before it left, and an unreadable frame ends the run.
 use Prim.Native.Nat.{ℕ, zero, suc, _+_}
 use mathlib.Core.Path.{_≡_}
 use mathlib.Core.List.{List, [], _∷_, _++_}
@@ -7,7 +7,7 @@ use mathlib.Core.Bool.{Bool, true, false, not, cond, _&&_, _||_}
 use lib.ListN.{length, drop}
 use Rattle.state.specs.Verdict.{Reply, accepted}
 use Rattle.cache.specs.Runs.{start}
-use Rattle.log.specs.Text.{Puts}
+use Rattle.octets.specs.Text.{Puts}
 use Rattle.log.specs.Line.{lineOf}
 use Rattle.journal.specs.declared.line.Logged.{Logged}
 use Rattle.journal.specs.declared.run.Replayed.{Replayed}

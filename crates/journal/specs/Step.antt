@@ -1,4 +1,5 @@
--- A step that was read, made as a call: what it answers and what it leaves (01, "The calls"). The definitions are those of the claims
+-- A step that was read, made as a call: what it answers and what it leaves (01, the agreed scope, "The calls"; docs/RULES.md has its
+-- rules). The definitions are those of the claims
 -- over lists of calls, so that a journal of frames is a list of calls to which the claims apply.
 use Prim.Native.Nat.{ℕ, _≤_}
 use mathlib.Core.Path.{_≡_}

@@ -1,10 +1,8 @@
 // A whole journal is run, and its log is made.
-ghost use mathlib.Core.Path.{_≡_};
-ghost use mathlib.Core.Bool.{cond};
-ghost use Prim.Native.Nat.{_≤_};
 ghost use Rattle.journal.specs.Step.{deviceOf};
 ghost use Rattle.journal.specs.Run.{Replays};
 use crate::line::log_frame;
+use octets::one_if;
 use state::CacheState;
 
 // How many frames were carried out and how many a call refused, whether an unreadable frame ended the run, and how many bytes of the
@@ -14,12 +12,6 @@ pub struct Replayed {
     pub refused: usize,
     pub early: bool,
     pub written: usize,
-}
-
-fn one_if(test: bool) -> usize
-    ensures { λ r. ⌜ (r ≡ cond test 1 0) × (r ≤ 1) ⌝ }
-{
-    if test { 1 } else { 0 }
 }
 
 pub fn replay(

@@ -1,5 +1,6 @@
--- Decimal numbers: they are read as the numbers that they stand for, are made of digits, and have no leading zero.
-use Prim.Native.Nat.{ℕ, zero, suc, _+_, _-_, _*_, _/_, _%_, _≤_, _<_}
+-- Decimal numbers: they are read as the numbers that they stand for, are made of digits, have no leading zero, and no more digits
+-- than they need.
+use Prim.Native.Nat.{ℕ, zero, suc, _+_, _-_, _*_, _/_, _%_, _^_, _≤_, _<_}
 use native.Mathlib.Omega.{arith}
 use native.Mathlib.Nat.{not-suc-le-zero}
 use mathlib.Core.Path.{_≡_, refl, ap, sym, _∙_}
@@ -105,3 +106,23 @@ leads n = by-digits Leads small large n
 
 pub no-leading-zero : NoLeadingZero
 no-leading-zero n rest e = leads n .zero-only (ap (λ (l : List ℕ). getD l 0 0) e)
+
+-- How long they are
+
+-- a number of two digits or more: its tenth has one digit less, and not none
+pub tenth : (k n : ℕ) → 10 ≤ n → n < 10 ^ k → (1 ≤ k - 1) × (n / 10 < 10 ^ (k - 1))
+tenth zero n more below = absurd (omega arith)
+tenth (suc zero) n more below = absurd (omega arith)
+tenth (suc (suc k)) n more below = let less : suc (suc k) - 1 ≡ suc k = omega arith in rw less (omega arith, omega arith)
+
+-- a number below 10 ^ k has at most k digits
+abbrev Within : ℕ → List ℕ → Type 0
+Within n ds = (k : ℕ) → 1 ≤ k → n < 10 ^ k → length ds ≤ k
+
+pub decimal-short : (k n : ℕ) → 1 ≤ k → n < 10 ^ k → length (decimal n) ≤ k
+decimal-short k n some below = by-digits Within (λ m one k some below. some) large n k some below
+  where
+    large : (m : ℕ) (ds : List ℕ) → 10 ≤ m → Within (m / 10) ds → Within m (ds ++ digit (m % 10) ∷ [])
+    large m ds more shorter k some below =
+        let less = tenth k m more below in
+        omega (arith, length-append ds (digit (m % 10) ∷ []), shorter (k - 1) (less .0) (less .1))

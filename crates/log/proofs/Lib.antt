@@ -1,4 +1,5 @@
 pub mod Putting
 pub mod Digits
 pub mod Pairs
+pub mod Lengths
 pub mod Worked

@@ -10,7 +10,7 @@ use lib.Seq.{sets-eq, take-nil, take-all, take-append-le, take-append-add}
 use borrow.Author.Tests.{leb-true, leb-false}
 use Rattle.octets.specs.Lists.{overwrite}
 use Rattle.octets.proofs.Overwrite.{overwrite-none, overwrite-then, length-overwrite}
-use Rattle.log.specs.Text.{Puts}
+use Rattle.octets.specs.Text.{Puts}
 
 -- as much as there is room for keeps the length, whatever the place
 kept : (buffer text : List ℕ) (at : ℕ) → length (overwrite buffer at (take (length buffer - at) text)) ≡ length buffer

@@ -1,4 +1,5 @@
--- Lines of the log: those of 01's worked example; an own write, a fetch of length 0, a fetch with letters among its digits, and an
+-- Lines of the log: those of the worked example of 01 (the agreed scope; docs/RULES.md has its rules);
+-- an own write, a fetch of length 0, a fetch with letters among its digits, and an
 -- unreadable frame. Then what some of the definitions are as bytes, and text that is cut where the buffer ends.
 use Prim.Native.Char.{code}
 use mathlib.Core.Path.{_≡_, refl}
@@ -7,7 +8,8 @@ use lib.ListN.{length, drop}
 use Rattle.state.specs.Records.{span}
 use Rattle.state.specs.Verdict.{refused, replied}
 use Rattle.frames.specs.Kinds.{kindOf}
-use Rattle.log.specs.Text.{ascii, digits, decimal, hexDigit, hexadecimal, hexTable, Puts}
+use Rattle.octets.specs.Text.{ascii, Puts}
+use Rattle.log.specs.Text.{digits, decimal, hexDigit, hexadecimal, hexTable}
 use Rattle.log.specs.Line.{fetchLetter, deliveredFields, answerFields, spaced, lineOf, tooLong}
 
 worked :

@@ -1,4 +1,4 @@
--- One line of the log (01, "The log program").
+-- One line of the log (01, the agreed scope, "The log program"; docs/RULES.md has its rules).
 use Prim.Native.Nat.{ℕ}
 use Prim.Native.Char.{code}
 use mathlib.Core.List.{List, [], _∷_, _++_, map}
@@ -8,7 +8,8 @@ use Rattle.state.specs.Refusals.{number}
 use Rattle.state.specs.Verdict.{Reply, refused, replied}
 use Rattle.log.specs.declared.line.Answer.{Answer}
 use Rattle.log.specs.declared.line.Answer.the-variants.{Done, Count, Counts, Refused}
-use Rattle.log.specs.Text.{ascii, decimal, hexadecimal}
+use Rattle.octets.specs.Text.{ascii}
+use Rattle.log.specs.Text.{decimal, hexadecimal}
 
 -- what each answer of the code stands for
 abbrev pub answerReply : Answer → Reply

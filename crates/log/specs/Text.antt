@@ -1,19 +1,12 @@
--- Text as bytes: quoted text, numbers in decimal, bytes in hexadecimal, and what it is to put text into a buffer.
-use Prim.Native.Nat.{ℕ, zero, suc, _+_, _-_, _*_, _/_, _%_, _<_, min}
+-- Numbers in decimal and bytes in hexadecimal, as text.
+use Prim.Native.Nat.{ℕ, zero, suc, _+_, _-_, _*_, _/_, _%_, _<_}
 use Prim.Native.Char.{code}
-use Prim.Native.String.{String, [] as none, _∷_ as _then_}
 use mathlib.Core.Path.{_≡_}
 use mathlib.Core.List.{List, [], _∷_, _++_}
 use mathlib.Core.Bool.{Bool, true, false, _&&_, cond}
 use lib.Dec.{ltb, leb}
-use lib.ListN.{length, take}
-use Rattle.octets.specs.Lists.{overwrite, part, all}
+use Rattle.octets.specs.Lists.{part, all}
 use Rattle.state.specs.Records.{span}
-
--- quoted text, a byte for each character
-abbrev pub ascii : String → List ℕ
-ascii none = []
-ascii (c then s) = code c ∷ ascii s
 
 -- the character of a decimal digit
 abbrev pub digit : ℕ → ℕ
@@ -24,7 +17,7 @@ unfoldable pub digits : (steps n : ℕ) → List ℕ
 digits zero n = []
 digits (suc steps) n = elim (ltb n 10) [ true ↦ digit n ∷ [] | false ↦ digits steps (n / 10) ++ digit (n % 10) ∷ [] ]
 
--- 01's decimal numbers
+-- the decimal numbers of 01 (the agreed scope; docs/RULES.md has its rules)
 unfoldable pub decimal : ℕ → List ℕ
 decimal n = digits (suc n) n
 
@@ -67,8 +60,3 @@ hexTable = hexadecimal (span 0 256)
 -- and so byte b is at places 2 × b and 2 × b + 1
 abbrev pub TablePairs : Type 0
 TablePairs = (byte : ℕ) → byte < 256 → part hexTable (2 * byte) 2 ≡ hexPair byte
-
--- Text is put into a buffer from a place on, as much of it as there is room for. The reply is the place behind it.
-pub record Puts (out : List ℕ) (at : ℕ) (text : List ℕ) (r : ℕ) (out′ : List ℕ) : Type 0 where
-  pub bytes : out′ ≡ overwrite out at (take (length out - at) text)
-  pub next : r ≡ min (length out) (at + length text)

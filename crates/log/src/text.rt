@@ -1,14 +1,14 @@
-// Text put into a lent buffer: bytes as they are, a number in decimal, bytes in hexadecimal. Each function takes every input: what
+// Numbers put into a lent buffer in decimal, and bytes in hexadecimal. Each function takes every input: what
 // does not fit is left out, and the reply is the place behind what was put.
-use octets::copy_at;
 use octets::lesser;
-use octets::minus;
+use octets::put;
 ghost use mathlib.Core.Path.{_≡_};
 ghost use mathlib.Core.List.{[], _∷_};
 ghost use Prim.Native.Nat.{_*_, _<_, _≤_};
 ghost use lib.ListN.{length};
 ghost use Rattle.octets.specs.Lists.{overwrite};
-ghost use Rattle.log.specs.Text.{digit, decimal, hexPair, hexadecimal, hexTable, Puts};
+ghost use Rattle.octets.specs.Text.{Puts};
+ghost use Rattle.log.specs.Text.{digit, decimal, hexPair, hexadecimal, hexTable};
 
 // The most digits of a number of 64 bits.
 const DIGITS: usize = 20;
@@ -23,13 +23,6 @@ const HEX: [u8; 512] = *b"\
     a0a1a2a3a4a5a6a7a8a9aaabacadaeafb0b1b2b3b4b5b6b7b8b9babbbcbdbebf\
     c0c1c2c3c4c5c6c7c8c9cacbcccdcecfd0d1d2d3d4d5d6d7d8d9dadbdcdddedf\
     e0e1e2e3e4e5e6e7e8e9eaebecedeeeff0f1f2f3f4f5f6f7f8f9fafbfcfdfeff";
-
-pub fn put(out: &mut [u8], at: usize, text: &[u8]) -> usize
-    ensures { λ r. ⌜ Puts (now (out .entry)) at (now (text .entry)) r (now (out .exit)) ⌝ }
-{
-    copy_at(out, at, text);
-    lesser(at, out.len()) + lesser(text.len(), minus(out.len(), at))
-}
 
 pub(crate) fn put_byte(out: &mut [u8], at: usize, byte: u8) -> usize
     ensures { λ r. ⌜ Puts (now (out .entry)) at (byte ∷ []) r (now (out .exit)) ⌝ }

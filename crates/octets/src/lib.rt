@@ -1,9 +1,10 @@
 // Byte buffers as lists: definitions in specs/, the laws on lists that the toolchain lacks in proofs/.
-// The functions set, copy and move bytes in a buffer. Each takes every input: what does not fit is left out.
+// The functions set, copy and move bytes in a buffer, and put text into one. Each takes every input: what does not fit is left out.
 mod copy;
 mod fill;
 mod numbers;
 mod shift;
+mod text;
 
 pub use copy::copy_at;
 pub use copy::copy_front;
@@ -11,4 +12,6 @@ pub use fill::clear;
 pub use numbers::greater;
 pub use numbers::lesser;
 pub use numbers::minus;
+pub use numbers::one_if;
 pub use shift::move_up;
+pub use text::put;

@@ -1,4 +1,5 @@
--- 01's marked situations with a star. Each starts with command 0 open, no records, and a window of 16,384 bytes.
+-- The marked situations of 01 (the agreed scope; docs/RULES.md has its rules) with a star. Each starts with command 0 open, no records,
+-- and a window of 16,384 bytes.
 use Prim.Native.Nat.{ℕ, _*_, _%_}
 use mathlib.Core.Path.{_≡_}
 use mathlib.Core.List.{List, [], _∷_, _++_, map}

@@ -1,5 +1,6 @@
 -- How a situation is written down and tested: calls, each with the answer and the delivered bytes that it must give, and with the
--- records of command 0 and the window after it where 01 speaks of them; and frames, each with what reading it must answer.
+-- records of command 0 and the window after it where 01 (the agreed scope; docs/RULES.md has its rules) speaks of them; and frames, each
+-- with what reading it must answer.
 use Prim.Native.Nat.{ℕ}
 use mathlib.Core.List.{List, [], _∷_}
 use mathlib.Core.Bool.{Bool, true, false, _&&_}

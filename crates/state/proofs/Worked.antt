@@ -1,4 +1,5 @@
--- The rules of records on small numbers. The first three joins are those of 01's situations A and B.
+-- The rules of records on small numbers. The first three joins are those of situations A and B of 01 (the agreed scope;
+-- docs/RULES.md has its rules).
 use Prim.Native.Nat.{ℕ}
 use mathlib.Core.Path.{_≡_, refl}
 use mathlib.Core.List.{[], _∷_}

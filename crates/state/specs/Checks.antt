@@ -1,4 +1,5 @@
--- The reasons to turn a call away, each stated once, in the order of 01's numbers. A call lists those that can apply to it.
+-- The reasons to turn a call away, each stated once, in the order of the numbers of 01 (the agreed scope; docs/RULES.md has its rules).
+-- A call lists those that can apply to it.
 use Prim.Native.Nat.{ℕ, _+_}
 use mathlib.Core.List.{List}
 use mathlib.Core.Bool.{not}

@@ -89,7 +89,7 @@ pub record Room (p : CommandState) (a n : ℕ) : Type 0 where
   pub few : length (joined (recordsIn p) a n) ≤ recordLimit
 
 -- What join gives of a command that holds together, by which 23 and 24 are judged: how many bytes the records up to the last that
--- is met hold, 01's fresh, and the number of records after joining.
+-- is met hold, the fresh count of 01 (the agreed scope; docs/RULES.md has its rules), and the number of records after joining.
 pub record Judged (p : CommandState) (a n : ℕ) (r : Join) : Type 0 where
   pub bytes : r .meeting .below + r .meeting .held ≡ total (take (r .meeting .last) (recordsIn p))
   pub fresh : r .fresh ≡ fresh (recordsIn p) a n

@@ -1,4 +1,4 @@
--- The limits (01, "Bounds of the device"), in its order.
+-- The limits (01, the agreed scope, "Bounds of the device"; docs/RULES.md has its rules), in its order.
 use Prim.Native.Nat.{ℕ}
 use Rattle.state.specs.declared.Limits.{Limits}
 

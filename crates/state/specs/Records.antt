@@ -1,5 +1,5 @@
 -- The records of one command: which addresses they hold, where the held bytes stand, and what a fetched span makes of them
--- (01, "The book and the store" and the rule of fetch).
+-- (01, the agreed scope, "The book and the store" and the rule of fetch; docs/RULES.md has its rules).
 use Prim.Native.Nat.{ℕ, zero, suc, _+_, _-_, min, max}
 use mathlib.Core.List.{List, [], _∷_, _++_}
 use mathlib.Core.Bool.{Bool, false, cond, _&&_, _||_}

@@ -1,4 +1,5 @@
--- The cache's state, 01's book: the fresh one, what each command holds, and which states hold together.
+-- The cache's state, the book of 01 (the agreed scope; docs/RULES.md has its rules): the fresh one, what each command holds, and which
+-- states hold together.
 use Prim.Native.Nat.{ℕ, _-_}
 use mathlib.Core.List.{List, [], _∷_, _++_}
 use mathlib.Core.Bool.{Bool, true, false, _&&_, _||_}

@@ -4,7 +4,7 @@ use mathlib.Core.List.{List, [], _∷_, map}
 use mathlib.Core.Bool.{Bool, true, false, cond, _&&_}
 use lib.Dec.{ltb}
 
--- 01's answer: the refusal number or the whole reply
+-- the answer of 01 (the agreed scope; docs/RULES.md has its rules): the refusal number or the whole reply
 pub data Reply : Type 0 where
   refused : ℕ → Reply
   replied : List ℕ → Reply

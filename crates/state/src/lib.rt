@@ -26,7 +26,8 @@ pub struct Meeting {
     pub held: usize,
 }
 
-// Document 01 calls it the book. Of each command there are 129 words: 0 if it is closed, and else one more than the number of its
+// Document 01 (the agreed scope; docs/RULES.md has its rules) calls it the book.
+// Of each command there are 129 words: 0 if it is closed, and else one more than the number of its
 // records; then the start and the length of each of its 64 entries.
 pub struct CacheState {
     pub words: [u16; CacheState::WORDS],

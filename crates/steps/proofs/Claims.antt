@@ -1,23 +1,39 @@
 -- The data of a line are as many bytes as the step is given, and are what the writer gets.
-use Prim.Native.Nat.{ℕ, min}
+use Prim.Native.Nat.{ℕ, _+_, min}
 use native.Mathlib.Omega.{arith}
-use mathlib.Core.Path.{_≡_, ap, _∙_}
+use mathlib.Core.Path.{_≡_, refl, ap, _∙_}
 use mathlib.Core.List.{List, []}
 use mathlib.Core.Bool.{Bool, true, false, cond}
 use lib.Dec.{ltb}
 use lib.ListN.{length, take, length-take}
 use Rattle.octets.proofs.Overwrite.{length-overwrite, overwrite-front}
-use Rattle.frames.specs.Kinds.{isKind}
+use Rattle.frames.specs.Kinds.{kindOf, isKind}
 use Rattle.steps.specs.declared.Fault.{Fault}
-use Rattle.steps.specs.declared.Fault.the-variants.{UnknownLetter}
+use Rattle.steps.specs.declared.Fault.the-variants.{UnknownLetter, ByteOrderMark}
 use Rattle.steps.specs.declared.Step.{Step}
 use Rattle.steps.specs.declared.Meaning.{Meaning}
 use Rattle.steps.specs.declared.Meaning.the-variants.{Nothing, Step as StepMeant, Bad}
-use Rattle.steps.specs.Scan.{wordStart, wordEnd, wordAt}
-use Rattle.steps.specs.Fields.{dataField}
-use Rattle.steps.specs.Line.{isSound, judged, sizeField, fieldsMean, fieldsData, textOf, lineKind, lineMeans, lineData}
+use Rattle.steps.specs.Scan.{wordEnd, wordAt, hasWord}
+use Rattle.steps.specs.Fields.{dataField, dataBytes}
+use Rattle.steps.specs.Line.{isSound, judged, sizeField, fieldsMean, fieldsData, stepKind, stepMeans, stepData}
+use Rattle.steps.specs.Line.{expecting, cutOf, stepOf, textMeans, isMarked, textOf, lineMeans, lineData}
 use Rattle.steps.specs.Claims.{GivenAll, DataHanded}
 use Rattle.steps.proofs.Bytes.{bytes-length}
+
+-- a step that is meant is given as many bytes as these
+abbrev Given : Meaning → List ℕ → Type 0
+Given meant bytes = (step : Step) → meant ≡ StepMeant step → length bytes ≡ step .given
+
+-- a test that chooses the meaning and the bytes alike
+either : (t : Bool) (m n : Meaning) (b c : List ℕ) → Given m b → Given n c → Given (cond t m n) (cond t b c)
+either true m n b c p q = p
+either false m n b c p q = q
+
+nothing-given : Given Nothing []
+nothing-given step e = let z : _≡_ {A = ℕ} 0 1 = cc in absurd (omega arith)
+
+bad-given : (fault : Fault) → Given (Bad fault) []
+bad-given fault step e = let z : _≡_ {A = ℕ} 0 1 = cc in absurd (omega arith)
 
 -- what is judged to be a step is the step that was judged
 judged-step : (fault : Fault) (made step : Step) → judged fault made ≡ StepMeant step → made ≡ step
@@ -28,24 +44,41 @@ judged-step fault made step e = go (isSound fault) e
     go true e = cc
     go false e = let z : _≡_ {A = ℕ} 0 1 = cc in absurd (omega arith)
 
-fields-given : (text : List ℕ) (at kind : ℕ) (step : Step) → fieldsMean text at kind ≡ StepMeant step → length (fieldsData text at kind) ≡ step .given
-unfolding fieldsMean fieldsData dataField
-fields-given text at kind step e = bytes-length (wordAt text (sizeField text at kind .next)) ∙ ap (λ (s : Step). s .given) (judged-step _ _ step e)
+bytes-counted : (text : List ℕ) (at : ℕ) (wanted : Bool) → length (dataBytes text at wanted) ≡ dataField text at wanted .value
+unfolding dataBytes dataField
+bytes-counted text at true = bytes-length (wordAt text at)
+bytes-counted text at false = refl
 
--- two tests choose a meaning and its data alike
-chosen : (s t : Bool) (meant : Meaning) (given : List ℕ) (step : Step) → (meant ≡ StepMeant step → length given ≡ step .given)
-    → cond s (cond t meant (Bad UnknownLetter)) Nothing ≡ StepMeant step → length (cond s (cond t given []) []) ≡ step .given
-chosen true true meant given step h e = h e
-chosen true false meant given step h e = let z : _≡_ {A = ℕ} 0 1 = cc in absurd (omega arith)
-chosen false t meant given step h e = let z : _≡_ {A = ℕ} 0 1 = cc in absurd (omega arith)
+fields-given : (text : List ℕ) (at kind : ℕ) → Given (fieldsMean text at kind) (fieldsData text at kind)
+unfolding fieldsMean fieldsData
+fields-given text at kind step e =
+    bytes-counted text (sizeField text at kind .next) (kindOf kind .hasData) ∙ ap (λ (s : Step). s .given) (judged-step _ _ step e)
+
+step-given : (text : List ℕ) → Given (stepMeans text) (stepData text)
+unfolding stepMeans stepData
+step-given text =
+    either (hasWord text 0) _ _ _ _
+    (either (isKind (stepKind text)) _ _ _ _ (fields-given text (wordEnd text 0) (stepKind text)) (bad-given UnknownLetter))
+    nothing-given
+
+-- a step is still given the same if something is expected of it
+expecting-given : (something : Bool) (meant : Meaning) (bytes : List ℕ) → Given meant bytes → Given (expecting something meant) bytes
+expecting-given something Nothing bytes p step e = let z : _≡_ {A = ℕ} 0 1 = cc in absurd (omega arith)
+expecting-given something (Bad fault) bytes p step e = let z : _≡_ {A = ℕ} 0 1 = cc in absurd (omega arith)
+expecting-given true (StepMeant s) bytes p step e = p step e
+expecting-given false (StepMeant s) bytes p step e = let z : _≡_ {A = ℕ} 0 1 = cc in absurd (omega arith)
+
+text-given : (text : List ℕ) → Given (textMeans text) (stepData (stepOf text))
+unfolding textMeans
+text-given text = go (ltb (cutOf text) (length text))
+  where
+    go : (t : Bool) → Given (cond t (expecting (hasWord text (cutOf text + 1)) (stepMeans (stepOf text))) (stepMeans (stepOf text))) (stepData (stepOf text))
+    go true = expecting-given (hasWord text (cutOf text + 1)) (stepMeans (stepOf text)) (stepData (stepOf text)) (step-given (stepOf text))
+    go false = step-given (stepOf text)
 
 pub given-all : GivenAll
 unfolding lineMeans lineData
-given-all line step e =
-    let text = textOf line in
-    let at = wordEnd text 0 in
-    let kind = lineKind line in
-    chosen (ltb (wordStart text 0) (length text)) (isKind kind) (fieldsMean text at kind) (fieldsData text at kind) step (fields-given text at kind step) e
+given-all line = either (isMarked line) _ _ _ _ (bad-given ByteOrderMark) (text-given (textOf line))
 
 pub data-handed : DataHanded
 data-handed line buffer step e =

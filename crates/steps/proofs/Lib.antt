@@ -1,4 +1,5 @@
 pub mod Scanning
+pub mod Fronts
 pub mod Numbers
 pub mod Bytes
 pub mod Places

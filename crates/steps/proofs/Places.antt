@@ -26,7 +26,11 @@ either false false f g h next p q r = r
 number-next : (word : List ℕ) (next : ℕ) → numberOf word next .next ≡ next
 unfolding numberOf
 number-next word next =
-    either (eqb (length word) 0) (ltb (place NotDecimal word 0) (length word)) (field 0 next FieldMissing) (field 0 next NotANumber) (field (min most (valueOf word)) next Sound) next
+    either (eqb (length word) 0) (ltb (place NotDecimal word 0) (length word))
+    (field 0 next FieldMissing)
+    (field 0 next NotANumber)
+    (field (min most (valueOf word)) next Sound)
+    next
     refl
     refl
     refl

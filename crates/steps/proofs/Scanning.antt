@@ -1,7 +1,7 @@
 -- The laws of a scan, at a place of a list.
-use Prim.Native.Nat.{ℕ, suc, _≤_, _<_}
+use Prim.Native.Nat.{ℕ, suc, _+_, _≤_, _<_}
 use native.Mathlib.Omega.{arith}
-use mathlib.Core.Path.{_≡_}
+use mathlib.Core.Path.{_≡_, refl}
 use mathlib.Core.List.{List, [], _∷_}
 use mathlib.Core.Bool.{Bool, true, false, cond}
 use lib.ListN.{length, drop, getD, length-drop}
@@ -20,6 +20,17 @@ module _ {A : Type 0} (test : A → Bool) where
       go true most = omega arith
       go false most = omega arith
 
+  -- and if it does not go so far, it ends at an element that passes the test
+  pub stopped : (xs : List A) (d : A) → before test xs < length xs → test (getD xs (before test xs) d) ≡ true
+  unfolding before
+  stopped [] d inside = absurd (omega arith)
+  stopped (x ∷ xs) d inside = go (test x) refl (stopped xs d)
+    where
+      go : (t : Bool) → test x ≡ t → (before test xs < length xs → test (getD xs (before test xs) d) ≡ true)
+          → test (getD (x ∷ xs) (cond (test x) 0 (suc (before test xs))) d) ≡ true
+      go true e on = rw e e
+      go false e on = rw e (on (omega (arith, rw e at inside)))
+
   module _ (xs : List A) (i : ℕ) where
     -- an element that passes the test ends it
     pub found : (d : A) → i < length xs → test (getD xs i d) ≡ true → before test (drop i xs) ≡ 0
@@ -37,3 +48,7 @@ module _ {A : Type 0} (test : A → Bool) where
 -- so the place where it stops lies in the text
 pub place-most : (stop : Stop) (text : List ℕ) (at : ℕ) → at ≤ length text → place stop text at ≤ length text
 place-most stop text at inside = omega (arith, before-most (stops stop) (drop at text), length-drop at text)
+
+-- for whatever class a scan from the front was made
+pub front-most : (test : ℕ → Bool) (text : List ℕ) (r : ℕ) → r ≡ 0 + before test text → r ≤ length text
+front-most test text r e = omega (arith, before-most test text)

@@ -1,4 +1,4 @@
--- The claim on the data of a line.
+-- The claims on the data of a line.
 use Prim.Native.Nat.{ℕ}
 use mathlib.Core.Path.{_≡_}
 use mathlib.Core.List.{List}

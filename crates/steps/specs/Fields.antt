@@ -9,7 +9,7 @@ use Rattle.steps.specs.declared.Stop.the-variants.{NotDecimal, NotHex}
 use Rattle.steps.specs.declared.Fault.{Fault}
 use Rattle.steps.specs.declared.Fault.the-variants.{Sound, FieldMissing, NotANumber, NotHexadecimal, OddDigits, FieldTooMany}
 use Rattle.steps.specs.declared.Field.{Field}
-use Rattle.steps.specs.Scan.{hexValue, place, wordStart, wordEnd, wordAt}
+use Rattle.steps.specs.Scan.{hexValue, place, wordEnd, wordAt, hasWord}
 
 -- a number above this counts as this one, which is above every limit of a step
 abbrev pub most : ℕ
@@ -24,10 +24,14 @@ numberOf word next =
     cond (eqb (length word) 0) (field 0 next FieldMissing)
     (cond (ltb (place NotDecimal word 0) (length word)) (field 0 next NotANumber) (field (min most (valueOf word)) next Sound))
 
+-- a field that is not wanted: nothing is read
+abbrev pub absent : (at : ℕ) → Field
+absent at = field 0 at Sound
+
 -- the number that stands next, if one is wanted
 unfoldable pub numberField : (text : List ℕ) (at : ℕ) (wanted : Bool) → Field
 numberField text at true = numberOf (wordAt text at) (wordEnd text at)
-numberField text at false = field 0 at Sound
+numberField text at false = absent at
 
 -- the byte of two hexadecimal digits; what is no digit counts as 0
 abbrev pub pairValue : ℕ → ℕ → ℕ
@@ -49,10 +53,16 @@ dataFault word =
     cond (isDash word) Sound
     (cond (ltb (place NotHex word 0) (length word)) NotHexadecimal (cond (eqb (length word % 2) 1) OddDigits Sound))
 
--- the data that stand next: how many bytes they are, which is none where no word follows
-unfoldable pub dataField : (text : List ℕ) (at : ℕ) → Field
-dataField text at = field (length (wordAt text at) / 2) (wordEnd text at) (dataFault (wordAt text at))
+-- the data that stand next, if data are wanted: how many bytes they are, which is none where no word follows
+unfoldable pub dataField : (text : List ℕ) (at : ℕ) (wanted : Bool) → Field
+dataField text at true = field (length (wordAt text at) / 2) (wordEnd text at) (dataFault (wordAt text at))
+dataField text at false = absent at
+
+-- and which bytes
+unfoldable pub dataBytes : (text : List ℕ) (at : ℕ) (wanted : Bool) → List ℕ
+dataBytes text at true = bytesOf (wordAt text at)
+dataBytes text at false = []
 
 -- nothing more may follow
 unfoldable pub endFault : (text : List ℕ) (at : ℕ) → Fault
-endFault text at = cond (ltb (wordStart text at) (length text)) FieldTooMany Sound
+endFault text at = cond (hasWord text at) FieldTooMany Sound

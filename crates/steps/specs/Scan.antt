@@ -1,13 +1,13 @@
 -- Classes of bytes, places in a text, and its words.
 use Prim.Native.Nat.{ℕ, suc, _+_, _-_}
 use mathlib.Core.List.{List, [], _∷_}
-use mathlib.Core.Bool.{Bool, not, _||_, cond}
+use mathlib.Core.Bool.{Bool, true, false, not, _&&_, _||_, cond}
 use lib.Dec.{ltb, leb, eqb}
-use lib.ListN.{drop}
+use lib.ListN.{length, drop}
 use Rattle.octets.specs.Lists.{part}
 use Rattle.log.specs.Text.{isDigit}
 use Rattle.steps.specs.declared.Stop.{Stop}
-use Rattle.steps.specs.declared.Stop.the-variants.{LineEnd, Comment, Word, Blank, NotDecimal, NotHex}
+use Rattle.steps.specs.declared.Stop.the-variants.{LineEnd, Comment, Equals, Word, Blank, NotDecimal, NotHex}
 
 -- a space, a tab, a carriage return
 abbrev pub isBlank : ℕ → Bool
@@ -25,6 +25,7 @@ isHex b = ltb (hexValue b) 16
 abbrev pub stops : Stop → ℕ → Bool
 stops LineEnd b = eqb b 10
 stops Comment b = eqb b 35
+stops Equals b = eqb b 61
 stops Word b = not (isBlank b)
 stops Blank b = isBlank b
 stops NotDecimal b = not (isDigit b)
@@ -34,6 +35,12 @@ stops NotHex b = not (isHex b)
 unfoldable pub before : {A : Type 0} → (A → Bool) → List A → ℕ
 before test [] = 0
 before test (x ∷ xs) = cond (test x) 0 (suc (before test xs))
+
+-- does the one list stand at the front of the other, by a test of their elements?
+unfoldable pub front : {A : Type 0} → (A → A → Bool) → List A → List A → Bool
+front test [] ys = true
+front test (x ∷ xs) [] = false
+front test (x ∷ xs) (y ∷ ys) = test x y && front test xs ys
 
 -- the first place from a place on whose byte is of the class, or the end
 abbrev pub place : Stop → List ℕ → ℕ → ℕ
@@ -48,3 +55,7 @@ wordEnd text at = place Blank text (wordStart text at)
 
 abbrev pub wordAt : List ℕ → ℕ → List ℕ
 wordAt text at = part text (wordStart text at) (wordEnd text at - wordStart text at)
+
+-- does a word follow?
+abbrev pub hasWord : List ℕ → ℕ → Bool
+hasWord text at = ltb (wordStart text at) (length text)

@@ -4,6 +4,7 @@ use crate::Field;
 use crate::Stop;
 use crate::data::data_fault;
 use crate::data::decode;
+use crate::scan::has_word;
 use crate::scan::until;
 use octets::lesser;
 use octets::minus;
@@ -12,8 +13,7 @@ ghost use Prim.Native.Nat.{min, _<_, _≤_};
 ghost use lib.ListN.{length, take};
 ghost use Rattle.log.specs.Text.{valueOf};
 ghost use Rattle.octets.specs.Lists.{overwrite};
-ghost use Rattle.steps.specs.Scan.{wordAt};
-ghost use Rattle.steps.specs.Fields.{most, numberOf, numberField, bytesOf, dataField, endFault};
+ghost use Rattle.steps.specs.Fields.{most, absent, numberOf, numberField, dataField, dataBytes, endFault};
 
 // A number above this counts as this one, which is above every limit of a step.
 const MOST: usize = 1000000;
@@ -61,29 +61,40 @@ fn number(word: &[u8], next: usize) -> Field
     }
 }
 
+// A field that is not wanted: nothing is read.
+fn absent(at: usize) -> Field
+    ensures { λ r. ⌜ r ≡ absent at ⌝ }
+{
+    Field {
+        value: 0,
+        next: at,
+        fault: Fault::Sound,
+    }
+}
+
 // The number that stands next, if one is wanted.
 pub(crate) fn number_field(text: &[u8], at: usize, wanted: bool) -> Field
     requires { ⌜ at ≤ length (now text) ⌝ }
-    ensures { λ r. ⌜ r ≡ numberField (now (text .entry)) at wanted ⌝ }
+    ensures field { λ r. ⌜ r ≡ numberField (now (text .entry)) at wanted ⌝ }
+    ensures inside { λ r. ⌜ r .next ≤ length (now (text .entry)) ⌝ }
 {
     if !wanted {
-        return Field {
-            value: 0,
-            next: at,
-            fault: Fault::Sound,
-        };
+        return absent(at);
     }
     let from = until(text, at, Stop::Word);
     let to = until(text, from, Stop::Blank);
     number(&text[from..to], to)
 }
 
-// The data that stand next, of which there may be none: how many bytes they are. They are put to the front of the buffer.
-pub(crate) fn data_field(text: &[u8], at: usize, buffer: &mut [u8]) -> Field
+// The data that stand next, if data are wanted: how many bytes they are, of which there may be none. They are put to the front of the buffer.
+pub(crate) fn data_field(text: &[u8], at: usize, wanted: bool, buffer: &mut [u8]) -> Field
     requires { ⌜ at ≤ length (now text) ⌝ }
-    ensures field { λ r. ⌜ r ≡ dataField (now (text .entry)) at ⌝ }
-    ensures bytes { λ _. ⌜ now (buffer .exit) ≡ overwrite (now (buffer .entry)) 0 (take (length (now (buffer .entry))) (bytesOf (wordAt (now (text .entry)) at))) ⌝ }
+    ensures field { λ r. ⌜ r ≡ dataField (now (text .entry)) at wanted ⌝ }
+    ensures bytes { λ _. ⌜ now (buffer .exit) ≡ overwrite (now (buffer .entry)) 0 (take (length (now (buffer .entry))) (dataBytes (now (text .entry)) at wanted)) ⌝ }
 {
+    if !wanted {
+        return absent(at);
+    }
     let from = until(text, at, Stop::Word);
     let to = until(text, from, Stop::Blank);
     let word = &text[from..to];
@@ -99,7 +110,7 @@ pub(crate) fn data_field(text: &[u8], at: usize, buffer: &mut [u8]) -> Field
 pub(crate) fn end_fault(text: &[u8], at: usize) -> Fault
     ensures { λ r. ⌜ r ≡ endFault (now (text .entry)) at ⌝ }
 {
-    if until(text, at, Stop::Word) < text.len() {
+    if has_word(text, at) {
         return Fault::FieldTooMany;
     }
     Fault::Sound

@@ -9,12 +9,14 @@ mod scan;
 
 pub use frame::frame_of;
 pub use line::parse;
+pub use scan::has_word;
 pub use scan::until;
 
 // Where a scan of a text stops: at a byte of this class.
 pub enum Stop {
     LineEnd,
     Comment,
+    Equals,
     // a byte that is no blank, with which a word begins
     Word,
     Blank,
@@ -31,6 +33,11 @@ pub enum Fault {
     NotHexadecimal,
     OddDigits,
     FieldTooMany,
+    ByteOrderMark,
+    // nothing stands behind `=`
+    NothingExpected,
+    // no step stands before `=`
+    NoStep,
 }
 
 // A field: the number that it gives, the place behind it, and what is wrong with it.

@@ -1,4 +1,5 @@
-// A whole line: its comment is left out, the first word is the letter of a kind, and the fields follow that the table gives the kind.
+// A whole line: its comment is left out, and what is expected; the first word is the letter of a kind, and the fields follow that the
+// table gives the kind.
 use crate::Fault;
 use crate::Meaning;
 use crate::Step;
@@ -6,13 +7,16 @@ use crate::Stop;
 use crate::fields::data_field;
 use crate::fields::end_fault;
 use crate::fields::number_field;
+use crate::scan::has_word;
+use crate::scan::starts;
 use crate::scan::until;
 use frames::tables;
 ghost use mathlib.Core.Path.{_≡_};
 ghost use Prim.Native.Nat.{_≤_};
 ghost use lib.ListN.{length, take};
 ghost use Rattle.octets.specs.Lists.{overwrite};
-ghost use Rattle.steps.specs.Line.{kindFor, kindNamed, hasSize, sizeOf, isSound, firstFault, judged, fieldsMean, fieldsData, lineMeans, lineData};
+ghost use Rattle.steps.specs.Line.{kindFor, kindNamed, hasSize, sizeOf, isSound, firstFault, judged, fieldsMean, fieldsData, stepMeans, stepData};
+ghost use Rattle.steps.specs.Line.{expecting, stepOf, textMeans, isMarked, lineMeans, lineData};
 
 const KINDS: usize = 5;
 
@@ -66,6 +70,9 @@ fn is_sound(fault: Fault) -> bool
         Fault::NotHexadecimal => false,
         Fault::OddDigits => false,
         Fault::FieldTooMany => false,
+        Fault::ByteOrderMark => false,
+        Fault::NothingExpected => false,
+        Fault::NoStep => false,
     }
 }
 
@@ -96,7 +103,7 @@ fn fields(text: &[u8], at: usize, kind: usize, buffer: &mut [u8]) -> Meaning
     let size_at = address.next;
     let size = number_field(text, size_at, has_size(kind));
     let data_at = size.next;
-    let data = data_field(text, data_at, buffer);
+    let data = data_field(text, data_at, tables::has_data(kind), buffer);
     let end = data.next;
     let command_fault = command.fault;
     let address_fault = address.fault;
@@ -116,13 +123,11 @@ fn fields(text: &[u8], at: usize, kind: usize, buffer: &mut [u8]) -> Meaning
     judged(fault, step)
 }
 
-// What a line says. Its data are put to the front of the buffer.
-pub fn parse(line: &[u8], buffer: &mut [u8]) -> Meaning
-    ensures meaning { λ r. ⌜ r ≡ lineMeans (now (line .entry)) ⌝ }
-    ensures bytes { λ _. ⌜ now (buffer .exit) ≡ overwrite (now (buffer .entry)) 0 (take (length (now (buffer .entry))) (lineData (now (line .entry)))) ⌝ }
+// What the part of a line before `=` and the comment says. Its data are put to the front of the buffer.
+fn step_meaning(text: &[u8], buffer: &mut [u8]) -> Meaning
+    ensures meaning { λ r. ⌜ r ≡ stepMeans (now (text .entry)) ⌝ }
+    ensures bytes { λ _. ⌜ now (buffer .exit) ≡ overwrite (now (buffer .entry)) 0 (take (length (now (buffer .entry))) (stepData (now (text .entry)))) ⌝ }
 {
-    let end = until(line, 0, Stop::Comment);
-    let text = &line[..end];
     let from = until(text, 0, Stop::Word);
     if text.len() <= from {
         return Meaning::Nothing;
@@ -133,4 +138,59 @@ pub fn parse(line: &[u8], buffer: &mut [u8]) -> Meaning
         return Meaning::Bad(Fault::UnknownLetter);
     }
     fields(text, to, kind, buffer)
+}
+
+// What a step says that `=` stands behind, with something behind that or not.
+fn expecting(something: bool, meaning: Meaning) -> Meaning
+    ensures { λ r. ⌜ r ≡ expecting something meaning ⌝ }
+{
+    match meaning {
+        Meaning::Nothing => Meaning::Bad(Fault::NoStep),
+        Meaning::Bad(fault) => Meaning::Bad(fault),
+        Meaning::Step(step) => {
+            if something {
+                Meaning::Step(step)
+            } else {
+                Meaning::Bad(Fault::NothingExpected)
+            }
+        }
+    }
+}
+
+// What the part of a line before the comment says. Its data are put to the front of the buffer.
+fn text_meaning(text: &[u8], buffer: &mut [u8]) -> Meaning
+    ensures meaning { λ r. ⌜ r ≡ textMeans (now (text .entry)) ⌝ }
+    ensures bytes { λ _. ⌜ now (buffer .exit) ≡ overwrite (now (buffer .entry)) 0 (take (length (now (buffer .entry))) (stepData (stepOf (now (text .entry))))) ⌝ }
+{
+    let cut = until(text, 0, Stop::Equals);
+    let meaning = step_meaning(&text[..cut], buffer);
+    if text.len() <= cut {
+        return meaning;
+    }
+    expecting(has_word(text, cut + 1), meaning)
+}
+
+// Does a byte order mark stand before the line?
+fn is_marked(line: &[u8]) -> bool
+    ensures { λ r. ⌜ r ≡ isMarked (now (line .entry)) ⌝ }
+{
+    if starts(b"\xef\xbb\xbf", line) {
+        return true;
+    }
+    if starts(b"\xff\xfe", line) {
+        return true;
+    }
+    starts(b"\xfe\xff", line)
+}
+
+// What a line says. Its data are put to the front of the buffer.
+pub fn parse(line: &[u8], buffer: &mut [u8]) -> Meaning
+    ensures meaning { λ r. ⌜ r ≡ lineMeans (now (line .entry)) ⌝ }
+    ensures bytes { λ _. ⌜ now (buffer .exit) ≡ overwrite (now (buffer .entry)) 0 (take (length (now (buffer .entry))) (lineData (now (line .entry)))) ⌝ }
+{
+    if is_marked(line) {
+        return Meaning::Bad(Fault::ByteOrderMark);
+    }
+    let end = until(line, 0, Stop::Comment);
+    text_meaning(&line[..end], buffer)
 }

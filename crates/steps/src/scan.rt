@@ -3,7 +3,8 @@ use crate::Stop;
 use crate::data::hex_value;
 ghost use mathlib.Core.Path.{_≡_};
 ghost use Rattle.log.specs.Text.{isDigit};
-ghost use Rattle.steps.specs.Scan.{isBlank, isHex, stops, place};
+ghost use lib.Dec.{eqb};
+ghost use Rattle.steps.specs.Scan.{isBlank, isHex, stops, place, front, hasWord};
 
 // The first place from `from` on whose byte is of the class, or the end of the text.
 pub fn until(text: &[u8], from: usize, stop: Stop) -> usize
@@ -19,12 +20,37 @@ pub fn until(text: &[u8], from: usize, stop: Stop) -> usize
     i
 }
 
+// Does a word follow?
+pub fn has_word(text: &[u8], at: usize) -> bool
+    ensures { λ r. ⌜ r ≡ hasWord (now (text .entry)) at ⌝ }
+{
+    until(text, at, Stop::Word) < text.len()
+}
+
+// Do these bytes stand at the front of the text?
+pub(crate) fn starts(bytes: &[u8], text: &[u8]) -> bool
+    ensures { λ r. ⌜ r ≡ front eqb (now (bytes .entry)) (now (text .entry)) ⌝ }
+{
+    let mut i = 0;
+    while i < bytes.len() {
+        if text.len() <= i {
+            return false;
+        }
+        if bytes[i] != text[i] {
+            return false;
+        }
+        i += 1;
+    }
+    true
+}
+
 fn stops(stop: Stop, byte: u8) -> bool
     ensures { λ r. ⌜ r ≡ stops stop byte ⌝ }
 {
     match stop {
         Stop::LineEnd => byte == b'\n',
         Stop::Comment => byte == b'#',
+        Stop::Equals => byte == b'=',
         Stop::Word => !is_blank(byte),
         Stop::Blank => is_blank(byte),
         Stop::NotDecimal => !is_decimal(byte),

@@ -1,4 +1,5 @@
--- The store: where the bytes of each command stand in it, and how a command sees a byte (01, "The book and the store").
+-- The store: where the bytes of each command stand in it, and how a command sees a byte (01, the agreed scope, "The
+-- book and the store"; docs/RULES.md has its rules).
 use Prim.Native.Nat.{ℕ, _+_, _*_, _-_}
 use mathlib.Core.List.{List, map}
 use mathlib.Core.Bool.{cond}

@@ -5,7 +5,7 @@ pub const USAGE: &str = "\
 usage: compare FETCHLOG [--journals N] [--seed S] [--frames N]
 
 Runs the program FETCHLOG (a path) on fixed and on random journals and holds
-what it prints against the reference.
+what it prints, and the sums that it says, against the reference.
 
   --journals N  at least N random journals (3000)
   --seed S      seed of the first journal; the next one has S + 1 (0)

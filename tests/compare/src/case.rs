@@ -8,6 +8,7 @@ use reference::log;
 use crate::child;
 use crate::difference;
 use crate::journals::journal;
+use crate::said::said;
 use crate::tally::Tally;
 
 /// An input, what it is called, and what has to be printed for it.
@@ -48,16 +49,21 @@ impl Case {
         Case::of_reference(&name, journal.bytes)
     }
 
-    /// Runs the program on the input. Standard output must be the expected log
-    /// and the status 0. An error means that the program could not be run.
+    /// Runs the program on the input. Standard output must be the expected log,
+    /// standard error what is to be said of it, and the status 0. An error means
+    /// that the program could not be run.
     pub fn put_to(&self, program: &Path) -> io::Result<Outcome> {
-        let output = child::run(program, &self.input)?;
+        let output = child::run(program, &[], &self.input)?;
+        let said = said(&self.input, &self.expected);
         let mut faults = vec![];
         if !output.status.success() {
             faults.push(format!("  status: {}\n", output.status));
         }
         if let Some(difference) = difference::first(&self.expected, &output.stdout) {
             faults.push(difference.to_string());
+        }
+        if let Some(difference) = difference::first(said.as_bytes(), &output.stderr) {
+            faults.push(format!("  on standard error\n{difference}"));
         }
         let complaint = format!("differs: {}\n{}", self.name, faults.concat());
         Ok(Outcome {

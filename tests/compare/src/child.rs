@@ -5,13 +5,13 @@ use std::path::Path;
 use std::process::{Command, Output, Stdio};
 use std::thread;
 
-/// Runs a program without arguments on an input and waits for its end. What
-/// it writes to standard error is passed through.
-pub fn run(program: &Path, input: &[u8]) -> io::Result<Output> {
+/// Runs a program with arguments on an input and waits for its end.
+pub fn run(program: &Path, arguments: &[&str], input: &[u8]) -> io::Result<Output> {
     let mut child = Command::new(program)
+        .args(arguments)
         .stdin(Stdio::piped())
         .stdout(Stdio::piped())
-        .stderr(Stdio::inherit())
+        .stderr(Stdio::piped())
         .spawn()
         .map_err(|error| named(program, error))?;
     let stdin = child.stdin.take();

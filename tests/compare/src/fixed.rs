@@ -9,6 +9,7 @@ use crate::walks::{BEGIN_END, OVERWRITTEN, SMALL};
 
 const WORKED_FRAMES: &[u8] = include_bytes!("../../../examples/worked.frames");
 const WORKED_LOG: &[u8] = include_bytes!("../../../examples/worked.log");
+const WORKED_STEPS: &[u8] = include_bytes!("../../../examples/worked.steps");
 
 /// What a log program prints for an input above 32,768 bytes, and nothing
 /// else.
@@ -22,6 +23,7 @@ pub fn cases() -> Vec<Case> {
         Case::new("the empty input", [], ""),
     ];
     cases.extend(about_the_longest_input());
+    cases.extend(text());
     cases.extend(heads::cases());
     cases.extend(cuts("the worked example", WORKED_FRAMES));
     cases.extend(cuts("a journal of begins and ends", &begins_and_ends()));
@@ -29,7 +31,8 @@ pub fn cases() -> Vec<Case> {
     cases
 }
 
-/// Situation K of 01 for command 6: fetch, host write, end, begin, fetch.
+/// Situation K of 01 (the agreed scope; docs/RULES.md has its rules) for
+/// command 6: fetch, host write, end, begin, fetch.
 fn situation_k() -> Vec<u8> {
     let begin = frame(0, 6, 0, 0, &[]);
     let fetch = frame(1, 6, 40, 3, &[]);
@@ -60,6 +63,22 @@ fn about_the_longest_input() -> Vec<Case> {
         Case::new("32,769 bytes", one_more, TOO_LONG),
         Case::new("32,769 zeros", [0; LONGEST + 1], TOO_LONG),
         Case::new("100,000 bytes", [0xff; 100_000], TOO_LONG),
+    ]
+}
+
+/// Text, which mostly is no journal.
+fn text() -> Vec<Case> {
+    let marked = |mark: &[u8]| [mark, WORKED_STEPS].concat();
+    vec![
+        Case::of_reference("steps", WORKED_STEPS),
+        Case::of_reference("steps behind a mark", marked(b"\xef\xbb\xbf")),
+        Case::of_reference("steps behind a mark of UTF-16", marked(b"\xff\xfe")),
+        Case::of_reference("steps behind the other mark", marked(b"\xfe\xff")),
+        Case::of_reference("steps behind half a mark", marked(b"\xef\xbb")),
+        Case::of_reference("steps and a zero", [WORKED_STEPS, &[0]].concat()),
+        Case::new("spaces", *b"     ", "1 F no 21\n"),
+        Case::new("spaces and a step", *b"     B 1\n", "1 F no 21\n2 ? no 1\n"),
+        Case::new("a newline", *b"\n", "1 ? no 1\n"),
     ]
 }
 

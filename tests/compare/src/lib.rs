@@ -1,5 +1,6 @@
 //! Holds a log program against the reference: both get the same journals, and
-//! what the program prints has to be the reference's log, byte for byte.
+//! what the program prints has to be the reference's log, byte for byte, and
+//! what it says on standard error the sums of that log.
 //!
 //! A journal is the input of a log program, frames one after the other. It is
 //! made from a seed alone.
@@ -16,6 +17,7 @@
 //! Comparing:
 //! - [`case`]: one input with the log it must give, put to the program.
 //! - [`child`]: the program as a child process.
+//! - [`said`]: what must be on standard error.
 //! - [`difference`]: the first line that is not as it must be.
 //! - [`tally`]: what the lines of a log say, counted.
 //! - [`workers`]: two threads for many cases.
@@ -32,6 +34,7 @@ pub mod draft;
 pub mod fixed;
 pub mod heads;
 pub mod journals;
+pub mod said;
 pub mod tally;
 pub mod unreadable;
 pub mod walk;

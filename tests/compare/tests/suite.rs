@@ -7,5 +7,6 @@ mod command_line;
 mod first_difference;
 mod fixed_cases;
 mod same_journals;
+mod what_is_said;
 mod what_profiles_reach;
 mod whole_runs;

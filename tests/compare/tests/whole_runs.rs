@@ -5,7 +5,7 @@
 use std::ffi::OsStr;
 use std::process::{Command, Output};
 
-const RIGHT: &str = env!("CARGO_BIN_EXE_fetchlog-reference");
+const RIGHT: &str = env!("CARGO_BIN_EXE_fetchlog-right");
 
 /// How many things the random journals must reach, each of which is counted
 /// as passed or failed.
@@ -40,7 +40,7 @@ impl Run {
     /// each profile. It must fail.
     fn of_wrong(script: &str) -> Run {
         let path = format!("{}/tests/faulty/{script}", env!("CARGO_MANIFEST_DIR"));
-        let run = Run::new(&[&path, "--journals", "14", "--seed", "700"]);
+        let run = Run::new(&[path.as_str(), "--journals", "14", "--seed", "700"]);
         assert_eq!(run.status, Some(1), "{}", run.errors);
         assert!(run.sums().1 > TO_REACH, "{}", run.out);
         run
@@ -176,6 +176,36 @@ fn missing_lines_are_found() {
             "  found:    (the output has ended)",
         ]
     );
+}
+
+#[test]
+fn a_last_line_that_is_not_said_is_found() {
+    let run = Run::of_wrong("no-last-line.sh");
+    assert_eq!(
+        run.complaint("the worked example"),
+        [
+            "  on standard error",
+            "  line 1, column 1",
+            "  expected: fetchlog: 7 frames, 6 ok, 1 refused\\n",
+            "  found:    (the output has ended)",
+        ]
+    );
+    assert_eq!(run.wrong(), run.number("fixed cases compared: ") + 14);
+}
+
+#[test]
+fn one_wrong_count_is_found() {
+    let run = Run::of_wrong("one-count.sh");
+    assert_eq!(
+        run.complaint("the worked example"),
+        [
+            "  on standard error",
+            "  line 1, column 27",
+            "  expected: fetchlog: 7 frames, 6 ok, 1 refused\\n",
+            "  found:    fetchlog: 7 frames, 6 ok, 2 refused\\n",
+        ]
+    );
+    assert!(!run.out.contains("differs: the empty input\n"));
 }
 
 #[test]

@@ -5,7 +5,7 @@ pub const USAGE: &str = "\
 usage: steps FRAMEWRITER [--files N] [--seed S]
 
 Runs the program FRAMEWRITER (a path) on good and on bad steps and holds what
-it writes against the reference's writer.
+it writes and says against the grammar of steps and the reference's writer.
 
   --files N  so many random step files (1000)
   --seed S   seed of the first file; the next one has S + 1 (0)

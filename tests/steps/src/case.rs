@@ -5,23 +5,23 @@ use std::path::Path;
 use std::process::{Command, Output, Stdio};
 use std::thread;
 
+use crate::expected::expected;
+
 /// An input, what it is called, and what has to be written for it.
-#[derive(Debug, Default)]
+#[derive(Debug)]
 pub struct Case {
     pub name: String,
     pub arguments: Vec<&'static str>,
     pub input: Vec<u8>,
     pub frames: Vec<u8>,
-    pub complaint: Wanted,
+    pub said: Wanted,
 }
 
 /// What must be on standard error.
-#[derive(Debug, Default)]
+#[derive(Debug)]
 pub enum Wanted {
-    #[default]
-    Nothing,
     /// This text, and nothing else.
-    Text(Vec<u8>),
+    Text(String),
     /// A text that starts so.
     Start(&'static str),
 }
@@ -29,14 +29,31 @@ pub enum Wanted {
 impl Wanted {
     fn is_met(&self, found: &[u8]) -> bool {
         match self {
-            Wanted::Nothing => found.is_empty(),
-            Wanted::Text(text) => found == text,
+            Wanted::Text(text) => found == text.as_bytes(),
             Wanted::Start(start) => found.starts_with(start.as_bytes()),
         }
     }
 }
 
 impl Case {
+    /// A case with the frames and the text that are given.
+    pub fn new(name: &str, input: impl Into<Vec<u8>>, frames: &[u8], text: &str) -> Case {
+        Case {
+            name: name.to_string(),
+            arguments: vec![],
+            input: input.into(),
+            frames: frames.to_vec(),
+            said: Wanted::Text(text.to_string()),
+        }
+    }
+
+    /// A case whose frames and text the grammar gives.
+    pub fn of_grammar(name: &str, input: impl Into<Vec<u8>>) -> Case {
+        let input = input.into();
+        let (frames, text) = expected(&input);
+        Case::new(name, input, &frames, &text)
+    }
+
     /// Runs the program on the input, and says what is wrong, if anything is.
     /// An error means that the program could not be run.
     pub fn put_to(&self, program: &Path) -> io::Result<Option<String>> {
@@ -53,12 +70,27 @@ impl Case {
                 first_difference(&output.stdout, &self.frames)
             );
         }
-        if !self.complaint.is_met(&output.stderr) {
-            let found = String::from_utf8_lossy(&output.stderr);
-            let shown: String = found.chars().take(300).collect();
-            faults += &format!("  standard error: {shown:?}\n");
+        if !self.said.is_met(&output.stderr) {
+            faults += &self.unmet(&output.stderr);
         }
         Ok(Some(format!("wrong: {}\n{faults}", self.name)).filter(|_| !faults.is_empty()))
+    }
+
+    /// What was wanted on standard error and what is there, from the first line
+    /// on that is not the same.
+    fn unmet(&self, found: &[u8]) -> String {
+        let wanted = match &self.said {
+            Wanted::Text(text) => text.as_bytes(),
+            Wanted::Start(start) => start.as_bytes(),
+        };
+        let equal = first_difference(found, wanted);
+        let newline = wanted[..equal].iter().rposition(|byte| *byte == b'\n');
+        let from = newline.map_or(0, |place| place + 1);
+        format!(
+            "  wanted on standard error: {:?}\n  found: {:?}\n",
+            shown(&wanted[from..]),
+            shown(&found[from..])
+        )
     }
 
     fn run(&self, program: &Path) -> io::Result<Output> {
@@ -89,4 +121,9 @@ fn feed(stdin: Option<impl Write>, input: &[u8]) {
 
 fn first_difference(found: &[u8], right: &[u8]) -> usize {
     found.iter().zip(right).take_while(|(a, b)| a == b).count()
+}
+
+/// The front of a text.
+fn shown(text: &[u8]) -> String {
+    String::from_utf8_lossy(text).chars().take(300).collect()
 }

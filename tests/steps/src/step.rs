@@ -6,6 +6,22 @@ use sampling::generator::Generator;
 /// The letters of the kinds, in the order of their numbers.
 pub const LETTERS: [char; 5] = ['B', 'F', 'E', 'H', 'W'];
 
+/// Expectations, each of which may stand behind a step.
+pub const EXPECTATIONS: [&str; 12] = [
+    "ok",
+    "OK 8 1",
+    "ok 8 1 040011002200330044",
+    "no",
+    "no 21",
+    "no such thing",
+    "04",
+    "-",
+    "zz",
+    "0",
+    "= ok =",
+    "\u{fc}\\",
+];
+
 /// A step with the fields that its line has. The others are 0.
 #[derive(Clone, Debug, Default)]
 pub struct Step {
@@ -14,6 +30,7 @@ pub struct Step {
     pub address: u64,
     /// Of a fetch alone; that of a write is the number of its bytes.
     pub length: u64,
+    /// Of a write alone.
     pub data: Vec<u8>,
 }
 
@@ -59,10 +76,11 @@ impl Step {
         self.fields().join(" ")
     }
 
-    /// Its line with blanks, zeros, cases, a dash and a comment as they come.
+    /// Its line with blanks, zeros, cases, a dash for no data, an expectation
+    /// and a comment as they come.
     pub fn any_line(&self, numbers: &mut Generator) -> String {
         let mut fields = self.fields();
-        if self.data.is_empty() && numbers.one_in(4) {
+        if self.kind >= 3 && self.data.is_empty() && numbers.one_in(4) {
             fields.push("-".to_string());
         }
         let mut line = blanks(numbers, 0);
@@ -84,10 +102,20 @@ impl Step {
         }
         line += &blanks(numbers, 0);
         if numbers.one_in(5) {
-            line += "# B 9 # zz";
+            line += &any_expectation(numbers);
+        }
+        if numbers.one_in(5) {
+            line += "# B 9 # zz = ";
         }
         line
     }
+}
+
+/// An expectation with blanks about it as they come.
+fn any_expectation(numbers: &mut Generator) -> String {
+    let place = numbers.below(EXPECTATIONS.len() as u64);
+    let (before, behind) = (blanks(numbers, 0), blanks(numbers, 0));
+    format!("={before}{}{behind}", EXPECTATIONS[place as usize])
 }
 
 /// So many blanks at least, mostly no more.

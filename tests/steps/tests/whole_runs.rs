@@ -7,6 +7,8 @@ use std::process::{Command, Output};
 
 use sampling::arguments::Arguments;
 use steps::arguments::OPTIONS;
+use steps::case::{Case, Wanted};
+use steps::grammar;
 use steps::{bad, random};
 
 fn run(words: &[&str]) -> Output {
@@ -22,12 +24,11 @@ fn last_line(output: &Output) -> String {
 }
 
 #[test]
-fn a_program_that_writes_nothing_fails_nearly_everywhere() {
+fn a_program_that_writes_nothing_fails_everywhere() {
     let output = run(&["/bin/true", "--files", "20"]);
     assert_eq!(output.status.code(), Some(1));
     let line = last_line(&output);
-    let passed: u64 = line.split(' ').next().unwrap().parse().unwrap();
-    assert!(passed < 10 && line.ends_with(" failed"), "{line}");
+    assert!(line.starts_with("0 passed, "), "{line}");
 }
 
 #[test]
@@ -41,27 +42,56 @@ fn what_cannot_be_run_is_no_failure_of_a_case() {
     assert_eq!(run(&[]).status.code(), Some(2));
 }
 
-#[test]
-fn the_file_of_a_seed_is_always_the_same_and_some_are_refused() {
-    assert_eq!(random::case(7).input, random::case(7).input);
-    let cases: Vec<_> = (0..300).map(random::case).collect();
-    for number in [4, 5, 6, 11] {
-        let end = format!("({number})\\n");
-        let count = cases
-            .iter()
-            .filter(|case| format!("{:?}", text_of(case)).contains(&end))
-            .count();
-        assert!(count > 0, "refusal {number}");
+fn text_of(case: &Case) -> &str {
+    match &case.said {
+        Wanted::Text(text) => text,
+        Wanted::Start(start) => start,
     }
-    assert!(bad::cases().len() > 60);
 }
 
-fn text_of(case: &steps::case::Case) -> String {
-    match &case.complaint {
-        steps::case::Wanted::Text(text) => String::from_utf8_lossy(text).into_owned(),
-        _ => String::new(),
-    }
+#[test]
+fn the_file_of_a_seed_is_always_the_same() {
+    assert_eq!(random::case(7).input, random::case(7).input);
+    assert!(bad::cases().len() > 100);
 }
+
+#[test]
+fn random_files_have_every_fault_and_several_in_one_file() {
+    let cases: Vec<Case> = (0..1_000).map(random::case).collect();
+    let count = |wanted: &dyn Fn(&str) -> bool| {
+        let texts = cases.iter().map(text_of);
+        texts.filter(|text| wanted(text)).count()
+    };
+    for reason in REASONS {
+        let count = count(&|text| text.contains(&format!(": {reason}: ")));
+        assert!(count > 5, "{reason}: {count}");
+    }
+    for number in [4, 6, 11] {
+        let reason = grammar::refusal(number);
+        let count = count(&|text| text.contains(&format!(": {reason}: ")));
+        assert!(count > 20, "{reason}: {count}");
+    }
+    let several = count(&|text| text.lines().count() > 4);
+    assert!(several > 200, "{several}");
+    let good = count(&|text| text.ends_with(" bytes\n"));
+    assert!((450..700).contains(&good), "{good}");
+    let long = count(&|text| text.contains("more than 32768 bytes"));
+    assert!(long > 20, "{long}");
+    let cut = count(&|text| text.contains("...\n"));
+    assert!(cut > 50, "{cut}");
+}
+
+const REASONS: [&str; 9] = [
+    grammar::LETTER,
+    grammar::MISSING,
+    grammar::MORE,
+    grammar::NUMBER,
+    grammar::HEX,
+    grammar::ODD,
+    grammar::MARK,
+    grammar::NOTHING,
+    grammar::NO_STEP,
+];
 
 #[test]
 fn the_words_of_the_command_line() {

@@ -7,7 +7,8 @@ use lib.ListN.{length}
 use denote.Ref.{now}
 use borrow.Author.Tests.{eq-eqb, ne-eqb}
 use borrow.Author.Needs.{needs}
-use Rattle.log.specs.Text.{ascii, hexadecimal, Puts}
+use Rattle.octets.specs.Text.{ascii, Puts}
+use Rattle.log.specs.Text.{hexadecimal}
 use Rattle.log.specs.Line.{fetchLetter, deliveredFields, spaced}
 use Rattle.log.proofs.Putting.{puts-is, puts-both}
 use Rattle.log.proofs.line.put_delivered.Statement.{statement}

@@ -8,7 +8,8 @@ use denote.Ref.{now}
 use borrow.Author.Needs.{needs}
 use Rattle.log.specs.declared.line.Answer.{Answer}
 use Rattle.log.specs.declared.line.Answer.the-variants.{Done, Count, Counts, Refused}
-use Rattle.log.specs.Text.{ascii, decimal, Puts}
+use Rattle.octets.specs.Text.{ascii, Puts}
+use Rattle.log.specs.Text.{decimal}
 use Rattle.state.specs.Verdict.{numbersOf}
 use Rattle.log.specs.Line.{answerReply, spaced}
 use Rattle.log.proofs.Putting.{puts-is, puts-both}

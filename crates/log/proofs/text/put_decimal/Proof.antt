@@ -1,6 +1,6 @@
 -- The loop's invariant: the digits of the rest, and behind them those that stand in the buffer already, are those of the number; and
 -- there is a place left for each digit of the rest. The measure is the rest.
-use Prim.Native.Nat.{ℕ, zero, suc, _-_, _/_, _%_, _^_, _≤_, _<_}
+use Prim.Native.Nat.{ℕ, suc, _-_, _/_, _%_, _^_, _≤_, _<_}
 use native.Mathlib.Omega.{arith}
 use mathlib.Core.Path.{_≡_, refl, ap, sym, _∙_}
 use mathlib.Core.List.{List, _∷_, _++_, append-nil}
@@ -9,7 +9,7 @@ use lib.Seq.{take-all, append-snoc, drop-cons, getD-set-same, drop-set-lt}
 use borrow.Author.Needs.{needs}
 use Rattle.log.specs.Text.{digit, decimal}
 use Rattle.log.proofs.Putting.{puts-is}
-use Rattle.log.proofs.Digits.{decimal-small, decimal-large}
+use Rattle.log.proofs.Digits.{decimal-small, decimal-large, tenth}
 use Rattle.log.proofs.text.put_decimal.Statement.{statement}
 use Rattle.log.proofs.text.put_decimal.Tie as tie
 
@@ -34,12 +34,6 @@ array-write-digits c = omega arith
 
 loop-less : tie.Need-loop-less Inv-loop μ-loop
 loop-less c = omega arith
-
--- a number of two digits or more: its tenth has one digit less, and not none
-tenth : (k n : ℕ) → 10 ≤ n → n < 10 ^ k → (1 ≤ k - 1) × (n / 10 < 10 ^ (k - 1))
-tenth zero n more below = absurd (omega arith)
-tenth (suc zero) n more below = absurd (omega arith)
-tenth (suc (suc k)) n more below = let less : suc (suc k) - 1 ≡ suc k = omega arith in rw less (omega arith, omega arith)
 
 -- a digit that is stored just before the others
 module _ (ds : List ℕ) (start : ℕ) (some : 1 ≤ start) (inside : start ≤ length ds) where

@@ -8,7 +8,8 @@ use lib.Seq.{take-all, length-take-le}
 use denote.Ref.{now}
 use Rattle.octets.specs.Lists.{overwrite, part}
 use Rattle.octets.proofs.Overwrite.{overwrite-lent}
-use Rattle.log.specs.Text.{hexPair, hexadecimal, Puts}
+use Rattle.octets.specs.Text.{Puts}
+use Rattle.log.specs.Text.{hexPair, hexadecimal}
 use Rattle.log.proofs.Putting.{puts-is, puts-past, puts-both, puts-cut}
 use Rattle.log.proofs.Pairs.{hex-append, hex-more, length-hex}
 use borrow.Author.Needs.{needs}

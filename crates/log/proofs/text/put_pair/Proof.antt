@@ -5,7 +5,7 @@ use mathlib.Core.List.{[], _∷_}
 use lib.ListN.{getD}
 use denote.Ref.{now}
 use borrow.Author.Needs.{needs}
-use Rattle.log.specs.Text.{Puts}
+use Rattle.octets.specs.Text.{Puts}
 use Rattle.log.proofs.Putting.{puts-is, puts-both}
 use Rattle.log.proofs.Pairs.{table-pair}
 use Rattle.log.proofs.text.put_pair.Statement.{statement}

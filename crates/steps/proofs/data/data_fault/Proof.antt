@@ -8,34 +8,48 @@ use borrow.Author.Needs.{needs}
 use Rattle.steps.proofs.data.data_fault.Statement.{statement}
 use Rattle.steps.proofs.data.data_fault.Tie as tie
 
-is-dash-requires : tie.Need-is-dash-requires
-is-dash-requires c κs = search needs
-
 returns : tie.Need-returns
 unfolding dataFault
 returns c = rw (← c .before .is-dash .ensures, c .if1 .taken)
 
-until-requires : tie.Need-until-requires
-until-requires c κs = search needs
-
 returns-2 : tie.Need-returns-2
 unfolding dataFault
 returns-2 c =
-    let word = now (c .before .before .before .before .before .args .word) in
-    rw (← c .before .before .before .is-dash .ensures, c .before .before .if1 .left, ← c .before .until .ensures, lt-ltb (c .before .until .result) (length word) (c .if2 .taken))
+    let scan = c .before in
+    let dash = scan .before in
+    let digits = length (now (dash .before .before .before .args .word)) in
+    rw (← dash .before .is-dash .ensures, dash .if1 .left, ← scan .until .ensures, lt-ltb (scan .until .result) digits (c .if2 .taken))
 
 returns-3 : tie.Need-returns-3
 unfolding dataFault
 returns-3 c =
-    let word = now (c .before .before .before .before .before .before .args .word) in
-    rw (← c .before .before .before .before .is-dash .ensures, c .before .before .before .if1 .left, ← c .before .before .until .ensures, le-ltb (c .before .before .until .result) (length word) (c .before .if2 .left), eq-eqb (length word % 2) 1 (c .if3 .taken))
+    let hex = c .before in
+    let scan = hex .before in
+    let dash = scan .before in
+    let digits = length (now (dash .before .before .before .args .word)) in
+    rw (
+      ← dash .before .is-dash .ensures,
+      dash .if1 .left,
+      ← scan .until .ensures,
+      le-ltb (scan .until .result) digits (hex .if2 .left),
+      eq-eqb (digits % 2) 1 (c .if3 .taken),
+    )
 
 returns-4 : tie.Need-returns-4
 unfolding dataFault
 returns-4 c =
-    let word = now (c .before .before .before .before .before .before .args .word) in
-    rw (← c .before .before .before .before .is-dash .ensures, c .before .before .before .if1 .left, ← c .before .before .until .ensures, le-ltb (c .before .before .until .result) (length word) (c .before .if2 .left), ne-eqb (length word % 2) 1 (c .if3 .left))
+    let hex = c .before in
+    let scan = hex .before in
+    let dash = scan .before in
+    let digits = length (now (dash .before .before .before .args .word)) in
+    rw (
+      ← dash .before .is-dash .ensures,
+      dash .if1 .left,
+      ← scan .until .ensures,
+      le-ltb (scan .until .result) digits (hex .if2 .left),
+      ne-eqb (digits % 2) 1 (c .if3 .left),
+    )
 
 pub data-fault-spec : {M : Type 1} → statement M
 data-fault-spec =
-    tie.close (tie.spec is-dash-requires returns until-requires returns-2 returns-3 returns-4)
+    tie.close (tie.spec (λ c κs. search needs) returns (λ c κs. search needs) returns-2 returns-3 returns-4)

@@ -18,38 +18,8 @@ Inv-loop word buffer₀ n i₀ buffer i = (i ≤ n) × (buffer ≡ paste buffer�
 abbrev μ-loop : tie.MeasureT-loop
 μ-loop word buffer₀ n i₀ buffer i = n - i
 
-lesser-requires : tie.Need-lesser-requires Inv-loop μ-loop
-lesser-requires c κs = search needs
-
 loop-holds : tie.Need-loop-holds Inv-loop μ-loop
 loop-holds c = (omega arith, refl, refl)
-
-mul-pair-value : tie.Need-mul-pair-value Inv-loop μ-loop
-mul-pair-value c = search needs
-
-shared-slice-read-pair-value : tie.Need-shared-slice-read-pair-value Inv-loop μ-loop
-shared-slice-read-pair-value c = search needs
-
-mul-pair-value-2 : tie.Need-mul-pair-value-2 Inv-loop μ-loop
-mul-pair-value-2 c = search needs
-
-add-pair-value : tie.Need-add-pair-value Inv-loop μ-loop
-add-pair-value c = search needs
-
-shared-slice-read-pair-value-2 : tie.Need-shared-slice-read-pair-value-2 Inv-loop μ-loop
-shared-slice-read-pair-value-2 c = search needs
-
-pair-value-requires : tie.Need-pair-value-requires Inv-loop μ-loop
-pair-value-requires c κs = search needs
-
-slice-write-buffer : tie.Need-slice-write-buffer Inv-loop μ-loop
-slice-write-buffer c = search needs
-
-add-i : tie.Need-add-i Inv-loop μ-loop
-add-i c = search needs
-
-loop-less : tie.Need-loop-less Inv-loop μ-loop
-loop-less c = search needs
 
 loop-again : tie.Need-loop-again Inv-loop μ-loop
 loop-again c =
@@ -63,9 +33,6 @@ loop-again c =
       rw (l .loop .inv .1, byte) (paste-more buffer (bytesOf word) i 0 (omega arith) (omega (arith, bytes-length word))),
       simp length-set (omega arith),
     )
-
-same-length : tie.Need-same-length Inv-loop μ-loop
-same-length c = search needs
 
 returns : tie.Need-returns Inv-loop μ-loop
 returns c =
@@ -82,17 +49,17 @@ decode-spec =
     (tie.spec
     Inv-loop
     μ-loop
-    lesser-requires
+    (λ c κs. search needs)
     loop-holds
-    mul-pair-value
-    shared-slice-read-pair-value
-    mul-pair-value-2
-    add-pair-value
-    shared-slice-read-pair-value-2
-    pair-value-requires
-    slice-write-buffer
-    add-i
-    loop-less
+    (λ c. search needs)
+    (λ c. search needs)
+    (λ c. search needs)
+    (λ c. search needs)
+    (λ c. search needs)
+    (λ c κs. search needs)
+    (λ c. search needs)
+    (λ c. search needs)
+    (λ c. search needs)
     loop-again
-    same-length
+    (λ c. search needs)
     returns)

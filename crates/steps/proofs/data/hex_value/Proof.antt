@@ -15,29 +15,67 @@ returns-2 c = let b = c .before .before .args .byte in rw (le-ltb b 48 (c .befor
 
 returns-3 : tie.Need-returns-3
 unfolding hexValue
-returns-3 c = let b = c .before .before .before .args .byte in rw (le-ltb b 48 (c .before .before .if1 .left), lt-leb b 57 (c .before .if2 .left), lt-ltb b 65 (c .if3 .taken))
-
-add-result : tie.Need-add-result
-add-result c = search needs
+returns-3 c =
+    let two = c .before in
+    let b = two .before .before .args .byte in
+    rw (le-ltb b 48 (two .before .if1 .left), lt-leb b 57 (two .if2 .left), lt-ltb b 65 (c .if3 .taken))
 
 returns-4 : tie.Need-returns-4
 unfolding hexValue
-returns-4 c = let b = c .before .before .before .before .args .byte in rw (le-ltb b 48 (c .before .before .before .if1 .left), lt-leb b 57 (c .before .before .if2 .left), le-ltb b 65 (c .before .if3 .left), le-leb b 70 (c .if4 .taken))
+returns-4 c =
+    let three = c .before in
+    let two = three .before in
+    let b = two .before .before .args .byte in
+    rw (le-ltb b 48 (two .before .if1 .left), lt-leb b 57 (two .if2 .left), le-ltb b 65 (three .if3 .left), le-leb b 70 (c .if4 .taken))
 
 returns-5 : tie.Need-returns-5
 unfolding hexValue
-returns-5 c = let b = c .before .before .before .before .before .args .byte in rw (le-ltb b 48 (c .before .before .before .before .if1 .left), lt-leb b 57 (c .before .before .before .if2 .left), le-ltb b 65 (c .before .before .if3 .left), lt-leb b 70 (c .before .if4 .left), lt-ltb b 97 (c .if5 .taken))
-
-add-result-2 : tie.Need-add-result-2
-add-result-2 c = search needs
+returns-5 c =
+    let four = c .before in
+    let three = four .before in
+    let two = three .before in
+    let b = two .before .before .args .byte in
+    rw (
+      le-ltb b 48 (two .before .if1 .left),
+      lt-leb b 57 (two .if2 .left),
+      le-ltb b 65 (three .if3 .left),
+      lt-leb b 70 (four .if4 .left),
+      lt-ltb b 97 (c .if5 .taken),
+    )
 
 returns-6 : tie.Need-returns-6
 unfolding hexValue
-returns-6 c = let b = c .before .before .before .before .before .before .args .byte in rw (le-ltb b 48 (c .before .before .before .before .before .if1 .left), lt-leb b 57 (c .before .before .before .before .if2 .left), le-ltb b 65 (c .before .before .before .if3 .left), lt-leb b 70 (c .before .before .if4 .left), le-ltb b 97 (c .before .if5 .left), le-leb b 102 (c .if6 .taken))
+returns-6 c =
+    let five = c .before in
+    let four = five .before in
+    let three = four .before in
+    let two = three .before in
+    let b = two .before .before .args .byte in
+    rw (
+      le-ltb b 48 (two .before .if1 .left),
+      lt-leb b 57 (two .if2 .left),
+      le-ltb b 65 (three .if3 .left),
+      lt-leb b 70 (four .if4 .left),
+      le-ltb b 97 (five .if5 .left),
+      le-leb b 102 (c .if6 .taken),
+    )
 
 returns-7 : tie.Need-returns-7
 unfolding hexValue
-returns-7 c = let b = c .before .before .before .before .before .before .args .byte in rw (le-ltb b 48 (c .before .before .before .before .before .if1 .left), lt-leb b 57 (c .before .before .before .before .if2 .left), le-ltb b 65 (c .before .before .before .if3 .left), lt-leb b 70 (c .before .before .if4 .left), le-ltb b 97 (c .before .if5 .left), lt-leb b 102 (c .if6 .left))
+returns-7 c =
+    let five = c .before in
+    let four = five .before in
+    let three = four .before in
+    let two = three .before in
+    let b = two .before .before .args .byte in
+    rw (
+      le-ltb b 48 (two .before .if1 .left),
+      lt-leb b 57 (two .if2 .left),
+      le-ltb b 65 (three .if3 .left),
+      lt-leb b 70 (four .if4 .left),
+      le-ltb b 97 (five .if5 .left),
+      lt-leb b 102 (c .if6 .left),
+    )
 
 pub hex-value-spec : {M : Type 1} → statement M
 hex-value-spec =
@@ -46,9 +84,9 @@ hex-value-spec =
     returns
     returns-2
     returns-3
-    add-result
+    (λ c. search needs)
     returns-4
     returns-5
-    add-result-2
+    (λ c. search needs)
     returns-6
     returns-7)

@@ -9,11 +9,8 @@ use Rattle.steps.proofs.data.is_dash.Tie as tie
 returns : tie.Need-returns
 returns c = rw (ne-eqb (length (now (c .before .args .word))) 1 (c .if1 .taken))
 
-shared-slice-read-result : tie.Need-shared-slice-read-result
-shared-slice-read-result c = search needs
-
 returns-2 : tie.Need-returns-2
 returns-2 c = rw (eq-eqb (length (now (c .before .before .args .word))) 1 (c .before .if1 .left))
 
 pub is-dash-spec : {M : Type 1} → statement M
-is-dash-spec = tie.close (tie.spec returns shared-slice-read-result returns-2)
+is-dash-spec = tie.close (tie.spec returns (λ c. search needs) returns-2)

@@ -11,23 +11,25 @@ returns : tie.Need-returns
 unfolding numberOf
 returns c = rw (eq-eqb (length (now (c .before .before .args .word))) 0 (c .if1 .taken))
 
-until-requires : tie.Need-until-requires
-until-requires c κs = search needs
-
 returns-2 : tie.Need-returns-2
 unfolding numberOf
 returns-2 c =
-    let word = now (c .before .before .before .before .args .word) in
-    rw (ne-eqb (length word) 0 (c .before .before .if1 .left), ← c .before .until .ensures, lt-ltb (c .before .until .result) (length word) (c .if2 .taken))
-
-value-requires : tie.Need-value-requires
-value-requires c κs = search needs
+    let scan = c .before in
+    let digits = length (now (scan .before .before .before .args .word)) in
+    rw (ne-eqb digits 0 (scan .before .if1 .left), ← scan .until .ensures, lt-ltb (scan .until .result) digits (c .if2 .taken))
 
 returns-3 : tie.Need-returns-3
 unfolding numberOf
 returns-3 c =
-    let word = now (c .before .before .before .before .before .args .word) in
-    rw (ne-eqb (length word) 0 (c .before .before .before .if1 .left), ← c .before .before .until .ensures, le-ltb (c .before .before .until .result) (length word) (c .before .if2 .left), c .value .ensures)
+    let decimal = c .before in
+    let scan = decimal .before in
+    let digits = length (now (scan .before .before .before .args .word)) in
+    rw (
+      ne-eqb digits 0 (scan .before .if1 .left),
+      ← scan .until .ensures,
+      le-ltb (scan .until .result) digits (decimal .if2 .left),
+      c .value .ensures,
+    )
 
 pub number-spec : {M : Type 1} → statement M
-number-spec = tie.close (tie.spec returns until-requires returns-2 value-requires returns-3)
+number-spec = tie.close (tie.spec returns (λ c κs. search needs) returns-2 (λ c κs. search needs) returns-3)

@@ -1,51 +1,45 @@
 -- The word that is handed on is the next one.
 use native.Mathlib.Omega.{arith}
+use mathlib.Core.Path.{_≡_}
 use denote.Ref.{now}
 use borrow.Author.Tests.{not-true, not-false}
 use Rattle.steps.specs.Fields.{numberField}
-use Rattle.steps.proofs.Places.{word-end-most}
+use Rattle.steps.proofs.Places.{word-end-most, field-next-most}
 use borrow.Author.Needs.{needs}
 use Rattle.steps.proofs.fields.number_field.Statement.{statement}
 use Rattle.steps.proofs.fields.number_field.Tie as tie
 
 returns : tie.Need-returns
 unfolding numberField
-returns c = rw (not-true (c .before .before .args .wanted) (c .if1 .taken))
-
-until-requires : tie.Need-until-requires
-until-requires c κs = search needs
-
-until-requires-2 : tie.Need-until-requires-2
-until-requires-2 c κs = search needs
-
-sub-number : tie.Need-sub-number
-sub-number c = search needs
-
-part-number-start : tie.Need-part-number-start
-part-number-start c = search needs
+returns c =
+    let start = c .before .before .before in
+    (rw (not-true (start .args .wanted) (c .before .if1 .taken), c .absent .ensures), rw (c .absent .ensures) (start .pre))
 
 part-number-end : tie.Need-part-number-end
 part-number-end c =
-    let text = now (c .before .before .before .before .args .text) in
-    let at = c .before .before .before .before .args .at in
-    omega (arith, rw (c .before .until .ensures) at (c .until2 .ensures), word-end-most text at (c .before .before .before .before .pre))
-
-number-requires : tie.Need-number-requires
-number-requires c κs = search needs
+    let start = c .before .before .before .before in
+    omega (arith, rw (c .before .until .ensures) at (c .until2 .ensures), word-end-most (now (start .args .text)) (start .args .at) (start .pre))
 
 returns-2 : tie.Need-returns-2
 unfolding numberField
-returns-2 c = rw (not-false (c .before .before .before .before .before .before .args .wanted) (c .before .before .before .before .if1 .left), c .number .ensures, c .before .before .until2 .ensures, c .before .before .before .until .ensures)
+returns-2 c =
+    let to = c .before .before in
+    let start = to .before .before .before .before in
+    let a = start .args in
+    let same : c .number .result ≡ numberField (now (a .text)) (a .at) (a .wanted) =
+    rw (not-false (a .wanted) (to .before .before .if1 .left), c .number .ensures, to .until2 .ensures, to .before .until .ensures) in
+    (same, rw same (field-next-most (now (a .text)) (a .at) (a .wanted) (start .pre)))
 
 pub number-field-spec : {M : Type 1} → statement M
 number-field-spec =
     tie.close
     (tie.spec
+    (λ c κs. search needs)
     returns
-    until-requires
-    until-requires-2
-    sub-number
-    part-number-start
+    (λ c κs. search needs)
+    (λ c κs. search needs)
+    (λ c. search needs)
+    (λ c. search needs)
     part-number-end
-    number-requires
+    (λ c κs. search needs)
     returns-2)

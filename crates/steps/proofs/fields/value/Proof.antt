@@ -22,40 +22,17 @@ abbrev μ-loop : tie.MeasureT-loop
 loop-holds : tie.Need-loop-holds Inv-loop μ-loop
 loop-holds c = (omega arith, omega arith, refl)
 
-mul-lesser : tie.Need-mul-lesser Inv-loop μ-loop
-mul-lesser c = search needs
-
-shared-slice-read-wide : tie.Need-shared-slice-read-wide Inv-loop μ-loop
-shared-slice-read-wide c = search needs
-
-wide-requires : tie.Need-wide-requires Inv-loop μ-loop
-wide-requires c κs = search needs
-
-minus-requires : tie.Need-minus-requires Inv-loop μ-loop
-minus-requires c κs = search needs
-
-add-lesser : tie.Need-add-lesser Inv-loop μ-loop
-add-lesser c = search needs
-
-lesser-requires : tie.Need-lesser-requires Inv-loop μ-loop
-lesser-requires c κs = search needs
-
-add-i : tie.Need-add-i Inv-loop μ-loop
-add-i c = search needs
-
-loop-less : tie.Need-loop-less Inv-loop μ-loop
-loop-less c = search needs
-
 loop-again : tie.Need-loop-again Inv-loop μ-loop
 loop-again c =
     let l = c .before .before .before .before .before in
     let word = now (l .before .before .args .word) in
-    let digit : c .before .minus .result ≡ getD word (l .loop .i) 0 - 48 = c .before .minus .ensures ∙ ap (λ (x : ℕ). x - 48) (c .before .before .wide .ensures .0) in
-    let value : c .lesser .result ≡ min most (l .loop .value * 10 + (getD word (l .loop .i) 0 - 48)) =
-    c .lesser .ensures ∙ ap (λ (x : ℕ). min most (l .loop .value * 10 + x)) digit in (
+    let i = l .loop .i in
+    let n = l .loop .value in
+    let digit : c .before .minus .result ≡ getD word i 0 - 48 = c .before .minus .ensures ∙ ap (λ (x : ℕ). x - 48) (c .before .before .wide .ensures .0) in
+    let value : c .lesser .result ≡ min most (n * 10 + (getD word i 0 - 48)) = c .lesser .ensures ∙ ap (λ (x : ℕ). min most (n * 10 + x)) digit in (
       omega arith,
       omega arith,
-      rw (add-one, value, next-digit (l .loop .value) (getD word (l .loop .i) 0) (drop (suc (l .loop .i)) word), ← drop-cons word (l .loop .i) 0 (omega arith)) (l .loop .inv .2),
+      rw (add-one, value, next-digit n (getD word i 0) (drop (suc i) word), ← drop-cons word i 0 (omega arith)) (l .loop .inv .2),
     )
 
 returns : tie.Need-returns Inv-loop μ-loop
@@ -72,13 +49,13 @@ value-spec =
     Inv-loop
     μ-loop
     loop-holds
-    mul-lesser
-    shared-slice-read-wide
-    wide-requires
-    minus-requires
-    add-lesser
-    lesser-requires
-    add-i
-    loop-less
+    (λ c. search needs)
+    (λ c. search needs)
+    (λ c κs. search needs)
+    (λ c κs. search needs)
+    (λ c. search needs)
+    (λ c κs. search needs)
+    (λ c. search needs)
+    (λ c. search needs)
     loop-again
     returns)

@@ -4,9 +4,6 @@ use borrow.Author.Needs.{needs}
 use Rattle.steps.proofs.line.first_fault.Statement.{statement}
 use Rattle.steps.proofs.line.first_fault.Tie as tie
 
-is-sound-requires : tie.Need-is-sound-requires
-is-sound-requires c κs = search needs
-
 returns : tie.Need-returns
 unfolding firstFault
 returns c = rw (← c .before .is-sound .ensures, c .if1 .taken)
@@ -16,4 +13,4 @@ unfolding firstFault
 returns-2 c = rw (← c .before .is-sound .ensures, c .if1 .left)
 
 pub first-fault-spec : {M : Type 1} → statement M
-first-fault-spec = tie.close (tie.spec is-sound-requires returns returns-2)
+first-fault-spec = tie.close (tie.spec (λ c κs. search needs) returns returns-2)

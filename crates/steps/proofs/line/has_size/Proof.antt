@@ -4,19 +4,13 @@ use borrow.Author.Needs.{needs}
 use Rattle.steps.proofs.line.has_size.Statement.{statement}
 use Rattle.steps.proofs.line.has_size.Tie as tie
 
-span-zero-requires : tie.Need-span-zero-requires
-span-zero-requires c κs = search needs
-
 returns : tie.Need-returns
 unfolding hasSize
 returns c = rw (← c .before .span-zero .ensures, c .if1 .taken)
-
-has-data-requires : tie.Need-has-data-requires
-has-data-requires c κs = search needs
 
 returns-2 : tie.Need-returns-2
 unfolding hasSize
 returns-2 c = rw (← c .before .before .span-zero .ensures, c .before .if1 .left, c .has-data .ensures)
 
 pub has-size-spec : {M : Type 1} → statement M
-has-size-spec = tie.close (tie.spec span-zero-requires returns has-data-requires returns-2)
+has-size-spec = tie.close (tie.spec (λ c κs. search needs) returns (λ c κs. search needs) returns-2)

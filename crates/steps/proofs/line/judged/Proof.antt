@@ -4,9 +4,6 @@ use borrow.Author.Needs.{needs}
 use Rattle.steps.proofs.line.judged.Statement.{statement}
 use Rattle.steps.proofs.line.judged.Tie as tie
 
-is-sound-requires : tie.Need-is-sound-requires
-is-sound-requires c κs = search needs
-
 returns : tie.Need-returns
 unfolding judged
 returns c = rw (← c .before .is-sound .ensures, c .if1 .taken)
@@ -16,4 +13,4 @@ unfolding judged
 returns-2 c = rw (← c .before .is-sound .ensures, c .if1 .left)
 
 pub judged-spec : {M : Type 1} → statement M
-judged-spec = tie.close (tie.spec is-sound-requires returns returns-2)
+judged-spec = tie.close (tie.spec (λ c κs. search needs) returns returns-2)

@@ -32,21 +32,12 @@ loop-holds : tie.Need-loop-holds Inv-loop μ-loop
 unfolding kindFor
 loop-holds c = (omega arith, omega arith)
 
-letter-requires : tie.Need-letter-requires Inv-loop μ-loop
-letter-requires c κs = search needs
-
 returns : tie.Need-returns Inv-loop μ-loop
 returns c =
     let l = c .before .before .before in
     let letter = l .before .args .letter in
     let same = eq-eqb (kindOf (l .loop .kind) .letter) letter (sym (c .before .letter .ensures) ∙ c .if1 .taken) in
     omega (arith, l .loop .inv .1, found (has letter) kinds (l .loop .kind) none (omega arith) same)
-
-add-kind : tie.Need-add-kind Inv-loop μ-loop
-add-kind c = search needs
-
-loop-less : tie.Need-loop-less Inv-loop μ-loop
-loop-less c = search needs
 
 loop-again : tie.Need-loop-again Inv-loop μ-loop
 loop-again c =
@@ -67,9 +58,9 @@ kind-for-spec =
     Inv-loop
     μ-loop
     loop-holds
-    letter-requires
+    (λ c κs. search needs)
     returns
-    add-kind
-    loop-less
+    (λ c. search needs)
+    (λ c. search needs)
     loop-again
     returns-2)

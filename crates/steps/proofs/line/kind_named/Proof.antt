@@ -11,16 +11,10 @@ returns : tie.Need-returns
 unfolding kindNamed
 returns c = rw (ne-eqb (length (now (c .before .before .args .word))) 1 (c .if1 .taken))
 
-shared-slice-read-kind-for : tie.Need-shared-slice-read-kind-for
-shared-slice-read-kind-for c = search needs
-
-kind-for-requires : tie.Need-kind-for-requires
-kind-for-requires c κs = search needs
-
 returns-2 : tie.Need-returns-2
 unfolding kindNamed
 returns-2 c = rw (eq-eqb (length (now (c .before .before .before .before .args .word))) 1 (c .before .before .if1 .left)) (c .kind-for .ensures)
 
 pub kind-named-spec : {M : Type 1} → statement M
 kind-named-spec =
-    tie.close (tie.spec returns shared-slice-read-kind-for kind-for-requires returns-2)
+    tie.close (tie.spec returns (λ c. search needs) (λ c κs. search needs) returns-2)

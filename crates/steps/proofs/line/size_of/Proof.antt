@@ -4,9 +4,6 @@ use borrow.Author.Needs.{needs}
 use Rattle.steps.proofs.line.size_of.Statement.{statement}
 use Rattle.steps.proofs.line.size_of.Tie as tie
 
-has-data-requires : tie.Need-has-data-requires
-has-data-requires c κs = search needs
-
 returns : tie.Need-returns
 unfolding sizeOf
 returns c = cc
@@ -16,4 +13,4 @@ unfolding sizeOf
 returns-2 c = cc
 
 pub size-of-spec : {M : Type 1} → statement M
-size-of-spec = tie.close (tie.spec has-data-requires returns returns-2)
+size-of-spec = tie.close (tie.spec (λ c κs. search needs) returns returns-2)

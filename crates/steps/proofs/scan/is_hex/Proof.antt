@@ -3,11 +3,8 @@ use borrow.Author.Needs.{needs}
 use Rattle.steps.proofs.scan.is_hex.Statement.{statement}
 use Rattle.steps.proofs.scan.is_hex.Tie as tie
 
-hex-value-requires : tie.Need-hex-value-requires
-hex-value-requires c κs = search needs
-
 returns : tie.Need-returns
 returns c = rw (c .hex-value .ensures)
 
 pub is-hex-spec : {M : Type 1} → statement M
-is-hex-spec = tie.close (tie.spec hex-value-requires returns)
+is-hex-spec = tie.close (tie.spec (λ c κs. search needs) returns)

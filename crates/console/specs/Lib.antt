@@ -1,0 +1,3 @@
+pub mod Counting
+pub mod Quoting
+pub mod Texts

@@ -1,0 +1,55 @@
+// What a program says: on standard error, but for what it was asked to tell.
+ghost use mathlib.Core.Path.{_≡_};
+ghost use Prim.Native.Nat.{min};
+ghost use lib.ListN.{length};
+ghost use Rattle.io.specs.Counts.{Counts};
+use libc::STDERR_FILENO;
+use libc::STDOUT_FILENO;
+use octets::lesser;
+use octets::put;
+
+// Room for a message that quotes a text.
+pub const NOTE: usize = 512;
+
+// So many bytes of a text, or all of them if there are fewer.
+pub fn within(text: &[u8], n: usize) -> usize
+    ensures { λ r. ⌜ Counts r (now (text .entry)) ⌝ }
+    ensures { λ r. ⌜ r ≡ min n (length (now (text .entry))) ⌝ }
+{
+    lesser(n, text.len())
+}
+
+pub fn say_text(text: &[u8]) {
+    io::write_all(STDERR_FILENO, text);
+}
+
+// The first n bytes of a message.
+pub fn say(note: &[u8], n: usize) {
+    let n = within(note, n);
+    io::write_all(STDERR_FILENO, &note[..n]);
+}
+
+// The program's name, what cannot be done, and the system's reason for the call that failed last.
+pub(crate) fn say_failed(program: &[u8], what: &[u8]) {
+    let mut note = [0u8; NOTE];
+    let next = put(&mut note, 0, program);
+    let next = put(&mut note, next, b": ");
+    let next = put(&mut note, next, what);
+    let n = within(&note, next);
+    os::fail(&note[..n]);
+}
+
+pub fn say_lost(program: &[u8]) {
+    say_failed(program, b"standard output cannot be written");
+}
+
+pub fn say_unread(program: &[u8]) {
+    say_failed(program, b"the input cannot be read");
+}
+
+// A text on standard output, or that it cannot be written.
+pub fn tell(program: &[u8], text: &[u8]) {
+    if !io::write_all(STDOUT_FILENO, text) {
+        say_lost(program);
+    }
+}

@@ -1,0 +1,161 @@
+// Carries out frames, or steps as lines, and says of each in words what it did. Holds what the lines expect against what came.
+use console::Asked;
+use libc::STDERR_FILENO;
+use libc::STDOUT_FILENO;
+use octets::put;
+use run::Tally;
+use script::Judgement;
+
+mod checking;
+mod framing;
+mod parts;
+mod run;
+mod unit;
+mod wording;
+
+fn main() {
+    if console::is(1, b"--frames") {
+        ask(2, false);
+    } else {
+        ask(1, true);
+    }
+}
+
+// The arguments from the first on; a line is a step, or the input is frames.
+fn ask(first: usize, by_lines: bool) {
+    match console::arguments(b"explain", first) {
+        Asked::Input(fd) => read(fd, by_lines),
+        Asked::Version => console::tell(b"explain", b"explain 1.0\n"),
+        Asked::Help => {
+            if !usage(STDOUT_FILENO) {
+                console::say_lost(b"explain");
+            }
+        }
+        Asked::Wrong => {
+            usage(STDERR_FILENO);
+        }
+        Asked::Failed => {}
+    }
+}
+
+fn usage(fd: i32) -> bool {
+    io::write_all(
+        fd,
+        b"usage: explain [STEPS]\n\
+        \x20      explain --frames [FRAMES]\n\
+        \x20      explain --help | --version\n\
+        \n\
+        Carries out steps, or frames, as fetchlog does, and prints a line in words for\n\
+        each. STEPS is a file as framewriter reads it, at most 1048576 bytes; FRAMES a\n\
+        file as fetchlog reads it, at most 32768 bytes; '-' or none is standard input.\n\
+        \n\
+        Behind '=' a step may say what is expected of it, as the log prints it:\n\
+        \n\
+        \x20 F 3 64 1 = 04         the bytes of an accepted fetch\n\
+        \x20 F 3 64 1 = ok 1 0     accepted, with these numbers first\n\
+        \x20 F 2 0 1 = no 21       refused, with this number\n\
+        \n\
+        The exit status is always 0. A run that lost nothing, and in which no\n\
+        expectation failed, ends on standard error with a line such as\n\
+        \n\
+        \x20 explain: 9 frames, 9 ok, 0 refused, 2 expectations held, 0 failed\n\
+        \n\
+        or, without expectations, in 'refused'. So in a script:\n\
+        \n\
+        \x20 explain STEPS 2> NOTES; tail -n 1 NOTES | grep -qE ' [0-9]+ refused$| 0 failed$'\n",
+    )
+}
+
+fn read(fd: i32, by_lines: bool) {
+    let mut input = script::room();
+    let reading = console::read_whole(fd, &mut input);
+    if !reading.whole {
+        console::say_unread(b"explain");
+        return;
+    }
+    let n = reading.count;
+    if by_lines {
+        run_steps(&input[..n]);
+    } else {
+        run_frames(&input[..n]);
+    }
+}
+
+fn run_frames(input: &[u8]) {
+    if input.len() > journal::MOST {
+        say_if_text(input);
+        console::say_text(b"explain: the input is above 32768 bytes, nothing is run\n");
+        return;
+    }
+    let tally = run::explain(false, input);
+    if tally.early {
+        say_if_text(input);
+    }
+    sum_up(tally);
+}
+
+// Steps that are given for frames.
+fn say_if_text(input: &[u8]) {
+    if console::looks_like_text(input) {
+        console::say_text(b"explain: the input looks like steps; leave --frames out\n");
+    }
+}
+
+fn run_steps(input: &[u8]) {
+    match script::judge(b"explain", input) {
+        Judgement::TooLong => {
+            console::say_text(b"explain: the input is above 1048576 bytes, nothing is run\n")
+        }
+        Judgement::Lines(judged) => {
+            if 0 < judged.bad {
+                say_bad(judged.bad);
+            } else {
+                sum_up(run::explain(true, input));
+            }
+        }
+    }
+}
+
+fn say_bad(bad: usize) {
+    let mut note = [0u8; console::NOTE];
+    let next = put(&mut note, 0, b"explain: ");
+    let next = console::put_count(&mut note, next, bad, b"bad line");
+    let next = put(&mut note, next, b", nothing is run\n");
+    console::say(&note, next);
+}
+
+// The last line on standard error.
+fn sum_up(tally: Tally) {
+    let mut note = [0u8; console::NOTE];
+    let next = put(&mut note, 0, b"explain: ");
+    let next = console::put_run(
+        &mut note,
+        next,
+        tally.frames,
+        tally.carried,
+        tally.refused,
+        tally.early,
+    );
+    let next = put_expected(&mut note, next, tally.held, tally.failed);
+    let next = console::put_lost(
+        &mut note,
+        next,
+        b", output lost from line ",
+        tally.frames,
+        tally.kept,
+    );
+    let next = put(&mut note, next, b"\n");
+    console::say(&note, next);
+}
+
+// How many expectations held and failed, if there was one.
+fn put_expected(note: &mut [u8], at: usize, held: usize, failed: usize) -> usize {
+    if held == 0 && failed == 0 {
+        return at;
+    }
+    let next = put(note, at, b", ");
+    let next = console::put_count(note, next, held, b"expectation");
+    let next = put(note, next, b" held, ");
+    let next = log::put_decimal(note, next, failed);
+    put(note, next, b" failed")
+}

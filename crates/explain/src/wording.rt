@@ -1,0 +1,141 @@
+// A frame in words: what is asked, and what came of it.
+use crate::parts::find;
+use crate::parts::put_parts;
+use crate::parts::put_span;
+use console::put_count;
+use frames::Step;
+use log::Answer;
+use log::put_decimal;
+use octets::put;
+use state::CacheState;
+use state::Refusal;
+
+fn put_command(line: &mut [u8], at: usize, command: usize) -> usize {
+    let next = put(line, at, b"command ");
+    put_decimal(line, next, command)
+}
+
+// What a step asks.
+pub(crate) fn put_asked(line: &mut [u8], at: usize, step: Step) -> usize {
+    match step {
+        Step::Begin { command } => {
+            let next = put_command(line, at, command);
+            put(line, next, b" begins")
+        }
+        Step::Fetch {
+            command,
+            address,
+            size,
+        } => {
+            let next = put_command(line, at, command);
+            let next = put(line, next, b" fetches ");
+            put_span(line, next, address, size)
+        }
+        Step::End { command } => {
+            let next = put_command(line, at, command);
+            put(line, next, b" ends")
+        }
+        Step::HostWrite { address, size } => {
+            let next = put(line, at, b"the host writes ");
+            put_span(line, next, address, size)
+        }
+        Step::OwnWrite {
+            command,
+            address,
+            size,
+        } => {
+            let next = put_command(line, at, command);
+            let next = put(line, next, b" writes ");
+            put_span(line, next, address, size)
+        }
+    }
+}
+
+pub(crate) fn put_refused(line: &mut [u8], at: usize, refusal: Refusal) -> usize {
+    let next = put(line, at, b": refused (");
+    let next = put_decimal(line, next, refusal.number() as usize);
+    let next = put(line, next, b"): ");
+    log::put_reason(line, next, refusal)
+}
+
+// What an accepted step did. The state is given as it was before, and as it is.
+pub(crate) fn put_done(
+    line: &mut [u8],
+    at: usize,
+    step: Step,
+    answer: Answer,
+    data: &[u8],
+    before: &[u16; CacheState::WORDS],
+    state: &[u16; CacheState::WORDS],
+    delivered: &[u8],
+) -> usize {
+    match step {
+        Step::Begin { .. } => at,
+        Step::Fetch {
+            command,
+            address,
+            ..
+        } => {
+            let next = put_parts(line, at, before, command, address, delivered);
+            put_records(line, next, state, command)
+        }
+        Step::End { .. } => put_held(line, at, answer),
+        _ => put_data(line, at, data),
+    }
+}
+
+fn put_held(line: &mut [u8], at: usize, answer: Answer) -> usize {
+    match answer {
+        Answer::Counts(records, bytes) => {
+            let next = put(line, at, b": ");
+            let next = put_count(line, next, records, b"record");
+            let next = put(line, next, b", ");
+            put_count(line, next, bytes, b"byte")
+        }
+        _ => at,
+    }
+}
+
+fn put_data(line: &mut [u8], at: usize, data: &[u8]) -> usize {
+    let next = put(line, at, b": ");
+    if data.len() == 0 {
+        return put(line, next, b"nothing");
+    }
+    log::put_hex(line, next, data)
+}
+
+// The records of a command.
+fn put_records(
+    line: &mut [u8],
+    at: usize,
+    state: &[u16; CacheState::WORDS],
+    command: usize,
+) -> usize {
+    let mut next = at;
+    let mut i = 0;
+    while i < CacheState::RECORDS {
+        let r = find(state, command, i);
+        if !r.there {
+            break;
+        }
+        next = put_record(line, next, i, r.start, r.len);
+        i += 1;
+    }
+    put_none(line, next, i)
+}
+
+fn put_none(line: &mut [u8], at: usize, records: usize) -> usize {
+    if records == 0 {
+        return put(line, at, b"; no records");
+    }
+    at
+}
+
+fn put_record(line: &mut [u8], at: usize, i: usize, start: usize, len: usize) -> usize {
+    if i == 0 {
+        let next = put(line, at, b"; records ");
+        return put_span(line, next, start, len);
+    }
+    let next = put(line, at, b" ");
+    put_span(line, next, start, len)
+}

@@ -1,0 +1,28 @@
+// Why a line has no frame, in words.
+use octets::put;
+use state::Refusal;
+use steps::Fault;
+
+// A sound line has no fault to tell, and does not come here.
+pub(crate) fn put_fault(note: &mut [u8], at: usize, fault: Fault) -> usize {
+    match fault {
+        Fault::UnknownLetter => put(note, at, b"no kind of step has this letter"),
+        Fault::FieldMissing => put(note, at, b"a field is missing"),
+        Fault::NotANumber => put(note, at, b"not a decimal number"),
+        Fault::NotHexadecimal => put(note, at, b"not hexadecimal"),
+        Fault::OddDigits => put(note, at, b"an odd number of hexadecimal digits"),
+        Fault::FieldTooMany => put(note, at, b"a field too many"),
+        Fault::ByteOrderMark => put(note, at, b"a byte order mark stands before the step"),
+        Fault::NothingExpected => put(note, at, b"nothing stands behind ="),
+        Fault::NoStep => put(note, at, b"an expectation without a step"),
+        Fault::Sound => put(note, at, b"no fault"),
+    }
+}
+
+// The reason in words, and its number in brackets.
+pub(crate) fn put_refusal(note: &mut [u8], at: usize, refusal: Refusal) -> usize {
+    let next = log::put_reason(note, at, refusal);
+    let next = put(note, next, b" (");
+    let next = log::put_decimal(note, next, refusal.number() as usize);
+    put(note, next, b")")
+}

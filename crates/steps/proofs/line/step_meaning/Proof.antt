@@ -1,0 +1,83 @@
+-- The tests that led to an answer decide the definition.
+use native.Mathlib.Omega.{arith}
+use mathlib.Core.Path.{_≡_}
+use mathlib.Core.Bool.{true, false}
+use denote.Ref.{now}
+use lib.ListN.{length}
+use borrow.Author.Tests.{lt-ltb, le-ltb}
+use Rattle.frames.specs.Kinds.{isKind}
+use Rattle.steps.specs.Scan.{wordEnd, hasWord}
+use Rattle.steps.specs.Line.{stepKind, stepMeans, stepData}
+use Rattle.steps.proofs.Places.{word-end-most}
+use Rattle.steps.proofs.Bytes.{nothing-put}
+use borrow.Author.Needs.{needs}
+use Rattle.steps.proofs.line.step_meaning.Statement.{statement}
+use Rattle.steps.proofs.line.step_meaning.Tie as tie
+
+returns : tie.Need-returns
+unfolding stepMeans stepData
+returns c =
+    let from = c .before in
+    let a = from .before .before .before .args in
+    let none : hasWord (now (a .text)) 0 ≡ false =
+    rw (← from .until .ensures) (le-ltb (from .until .result) (length (now (a .text))) (c .if1 .taken)) in
+    (rw none, rw none (nothing-put (now (a .buffer))))
+
+-- a word was found
+module _ (c : tie.After-until2) where
+  abbrev from : tie.After-until
+  from = c .before .before
+
+  abbrev start : tie.Start
+  start = from .before .before .before
+
+  some : hasWord (now (start .args .text)) 0 ≡ true
+  some = rw (← from .until .ensures) (lt-ltb (from .until .result) (length (now (start .args .text))) (c .before .if1 .left))
+
+  ends : c .until2 .result ≡ wordEnd (now (start .args .text)) 0
+  ends = rw (← from .until .ensures) (c .until2 .ensures)
+
+part-kind-named-end : tie.Need-part-kind-named-end
+part-kind-named-end c = omega (arith, ends c, word-end-most (now (start c .args .text)) 0 (omega arith))
+
+kind : (c : tie.After-kind-named) → c .kind-named .result ≡ stepKind (now (start (c .before .before) .args .text))
+kind c = rw (← ends (c .before .before), ← from (c .before .before) .until .ensures) (c .kind-named .ensures)
+
+returns-2 : tie.Need-returns-2
+unfolding stepMeans stepData
+returns-2 c =
+    let named = c .before in
+    let word = named .before .before in
+    let unknown : isKind (stepKind (now (start word .args .text))) ≡ false = rw (← kind named) (le-ltb (named .kind-named .result) 5 (c .if2 .taken)) in
+    (rw (some word, unknown), rw (some word, unknown) (nothing-put (now (start word .args .buffer))))
+
+fields-requires : tie.Need-fields-requires
+fields-requires c κs = let word = c .before .before .before .before in omega (arith, ends word, word-end-most (now (start word .args .text)) 0 (omega arith))
+
+returns-3 : tie.Need-returns-3
+unfolding stepMeans stepData
+returns-3 c =
+    let made = c .before .before in
+    let known-kind = made .before .before in
+    let named = known-kind .before in
+    let word = named .before .before in
+    let known : isKind (stepKind (now (start word .args .text))) ≡ true = rw (← kind named) (lt-ltb (named .kind-named .result) 5 (known-kind .if2 .left)) in (
+      rw (some word, known, ← kind named, ← ends word) (made .fields .ensures .0),
+      rw (some word, known, ← kind named, ← ends word) (made .fields .ensures .1),
+    )
+
+pub step-meaning-spec : {M : Type 1} → statement M
+step-meaning-spec =
+    tie.close
+    (tie.spec
+    (λ c κs. search needs)
+    returns
+    (λ c κs. search needs)
+    (λ c. search needs)
+    (λ c. search needs)
+    part-kind-named-end
+    (λ c κs. search needs)
+    returns-2
+    fields-requires
+    (λ c. search needs)
+    returns-3)
