@@ -4,7 +4,7 @@ use mathlib.Core.List.{List, [], _++_}
 use mathlib.Core.Bool.{Bool, cond}
 use lib.Dec.{leb, eqb}
 use Rattle.octets.specs.Text.{ascii}
-use Rattle.log.specs.Text.{decimal}
+use Rattle.text.specs.Decimal.{decimal}
 
 -- a number and what it counts, in the plural where it is not one
 unfoldable pub counted : ℕ → (noun : List ℕ) → List ℕ

@@ -6,7 +6,7 @@ use mathlib.Core.Bool.{Bool, not, _&&_, cond}
 use lib.Dec.{ltb, leb, eqb}
 use lib.ListN.{length, take}
 use Rattle.octets.specs.Text.{ascii}
-use Rattle.log.specs.Text.{hexPair}
+use Rattle.text.specs.Hexadecimal.{hexPair}
 
 -- a printable character of ASCII, but for the one that begins an escape
 abbrev pub isPlain : ℕ → Bool

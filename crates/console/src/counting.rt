@@ -2,8 +2,8 @@
 ghost use mathlib.Core.Path.{_≡_};
 ghost use Rattle.octets.specs.Text.{Puts};
 ghost use Rattle.console.specs.Counting.{counted, told, lost};
-use log::put_decimal;
 use octets::put;
+use text::put_decimal;
 
 // A number and what it counts, in the plural where it is not one.
 pub fn put_count(out: &mut [u8], at: usize, n: usize, noun: &[u8]) -> usize

@@ -30,7 +30,7 @@ fn quote_byte(out: &mut [u8], at: usize, text: &[u8]) -> usize
         return put(out, at, text);
     }
     let next = put(out, at, b"\\x");
-    log::put_hex(out, next, text)
+    text::put_hex(out, next, text)
 }
 
 pub fn quote(out: &mut [u8], at: usize, text: &[u8]) -> usize

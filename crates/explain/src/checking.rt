@@ -39,7 +39,7 @@ pub(crate) fn check(number: usize, step: &[u8], logged: &[u8]) -> Met {
 fn say_failed(number: usize, expected: &[u8], answer: &[u8]) {
     let mut note = [0u8; 2 * console::NOTE];
     let next = put(&mut note, 0, b"explain: line ");
-    let next = log::put_decimal(&mut note, next, number);
+    let next = text::put_decimal(&mut note, next, number);
     let next = put(&mut note, next, b": expected ");
     let next = put_trimmed(&mut note, next, expected);
     let next = put(&mut note, next, b", but ");

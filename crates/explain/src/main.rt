@@ -156,6 +156,6 @@ fn put_expected(note: &mut [u8], at: usize, held: usize, failed: usize) -> usize
     let next = put(note, at, b", ");
     let next = console::put_count(note, next, held, b"expectation");
     let next = put(note, next, b" held, ");
-    let next = log::put_decimal(note, next, failed);
+    let next = text::put_decimal(note, next, failed);
     put(note, next, b" failed")
 }

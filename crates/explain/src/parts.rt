@@ -2,12 +2,12 @@
 ghost use Prim.Native.Nat.{_<_, _≤_};
 ghost use lib.ListN.{length};
 use cache::show::ShowAnswer;
-use log::put_decimal;
 use octets::greater;
 use octets::lesser;
 use octets::minus;
 use octets::put;
 use state::CacheState;
+use text::put_decimal;
 
 pub(crate) fn wide(n: u16) -> usize
     ensures { λ r. ⌜ r < 65536 ⌝ }
@@ -78,7 +78,7 @@ fn put_part(
         to - from,
     );
     let next = put(line, next, b" ");
-    log::put_hex(line, next, &bytes[from..to])
+    text::put_hex(line, next, &bytes[from..to])
 }
 
 fn put_fresh(

@@ -1,11 +1,11 @@
 // The next frame of an input, copied to the front of a buffer, and how its line of words begins. The input is of frames, or of steps.
 ghost use Rattle.io.specs.Counts.{Counts};
-use log::put_decimal;
 use octets::copy_front;
 use octets::lesser;
 use octets::put;
 use steps::Framed;
 use steps::Stop;
+use text::put_decimal;
 
 // How many bytes of the buffer are the frame's (none for a blank line), and the place behind the beginning of the line.
 pub(crate) struct Unit {

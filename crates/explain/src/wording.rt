@@ -5,10 +5,10 @@ use crate::parts::put_span;
 use console::put_count;
 use frames::Step;
 use log::Answer;
-use log::put_decimal;
 use octets::put;
 use state::CacheState;
 use state::Refusal;
+use text::put_decimal;
 
 fn put_command(line: &mut [u8], at: usize, command: usize) -> usize {
     let next = put(line, at, b"command ");
@@ -101,7 +101,7 @@ fn put_data(line: &mut [u8], at: usize, data: &[u8]) -> usize {
     if data.len() == 0 {
         return put(line, next, b"nothing");
     }
-    log::put_hex(line, next, data)
+    text::put_hex(line, next, data)
 }
 
 // The records of a command.

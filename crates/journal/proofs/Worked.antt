@@ -17,7 +17,8 @@ use Rattle.frames.specs.Checks.{notZero, zeroBroken}
 use Rattle.frames.specs.Kinds.{dataSize}
 use Rattle.frames.specs.Read.{fieldsSay, readSays}
 use Rattle.octets.specs.Text.{ascii}
-use Rattle.log.specs.Text.{digits, decimal, hexDigit, hexadecimal}
+use Rattle.text.specs.Decimal.{digits, decimal}
+use Rattle.text.specs.Hexadecimal.{hexDigit, hexadecimal}
 use Rattle.log.specs.Line.{deliveredFields, answerFields, spaced, lineOf}
 
 worked :

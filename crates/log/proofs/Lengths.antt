@@ -8,10 +8,10 @@ use lib.Dec.{eqb}
 use lib.ListN.{length, length-append}
 use Rattle.state.specs.Verdict.{Reply, refused, replied}
 use Rattle.octets.specs.Text.{ascii}
-use Rattle.log.specs.Text.{decimal}
+use Rattle.text.specs.Decimal.{decimal}
 use Rattle.log.specs.Line.{fetchLetter, shown, deliveredFields, answerFields, spaced, lineOf}
-use Rattle.log.proofs.Digits.{decimal-short}
-use Rattle.log.proofs.Pairs.{length-hex}
+use Rattle.text.proofs.Digits.{decimal-short}
+use Rattle.text.proofs.Pairs.{length-hex}
 
 -- a short reply: a refusal number of up to two digits, or up to two numbers of up to four
 pub data Short : Reply → Type 0 where

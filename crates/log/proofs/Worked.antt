@@ -1,15 +1,14 @@
 -- Lines of the log: those of the worked example of 01 (the agreed scope; docs/RULES.md has its rules);
 -- an own write, a fetch of length 0, a fetch with letters among its digits, and an
--- unreadable frame. Then what some of the definitions are as bytes, and text that is cut where the buffer ends.
+-- unreadable frame. Then what some of the definitions are as bytes.
 use Prim.Native.Char.{code}
 use mathlib.Core.Path.{_≡_, refl}
 use mathlib.Core.List.{[], _∷_, map}
-use lib.ListN.{length, drop}
-use Rattle.state.specs.Records.{span}
 use Rattle.state.specs.Verdict.{refused, replied}
 use Rattle.frames.specs.Kinds.{kindOf}
-use Rattle.octets.specs.Text.{ascii, Puts}
-use Rattle.log.specs.Text.{digits, decimal, hexDigit, hexadecimal, hexTable}
+use Rattle.octets.specs.Text.{ascii}
+use Rattle.text.specs.Decimal.{digits, decimal}
+use Rattle.text.specs.Hexadecimal.{hexDigit, hexadecimal}
 use Rattle.log.specs.Line.{fetchLetter, deliveredFields, answerFields, spaced, lineOf, tooLong}
 
 worked :
@@ -40,21 +39,3 @@ too-long = refl
 
 fetch-letter : fetchLetter ≡ kindOf 1 .letter
 fetch-letter = refl
-
-zero-digit : decimal 0 ≡ ascii "0"
-unfolding decimal digits
-zero-digit = refl
-
-table-size : length hexTable ≡ 512
-unfolding hexTable hexadecimal hexDigit span
-table-size = refl
-
-table-end : drop 506 hexTable ≡ ascii "fdfeff"
-unfolding hexTable hexadecimal hexDigit span
-table-end = refl
-
-cut : Puts (ascii "....") 2 (ascii "abc") 4 (ascii "..ab")
-cut = record { bytes = refl; next = refl }
-
-past : Puts (ascii "....") 5 (ascii "abc") 4 (ascii "....")
-past = record { bytes = refl; next = refl }

@@ -9,7 +9,8 @@ use Rattle.state.specs.Verdict.{Reply, refused, replied}
 use Rattle.log.specs.declared.line.Answer.{Answer}
 use Rattle.log.specs.declared.line.Answer.the-variants.{Done, Count, Counts, Refused}
 use Rattle.octets.specs.Text.{ascii}
-use Rattle.log.specs.Text.{decimal, hexadecimal}
+use Rattle.text.specs.Decimal.{decimal}
+use Rattle.text.specs.Hexadecimal.{hexadecimal}
 
 -- what each answer of the code stands for
 abbrev pub answerReply : Answer → Reply

@@ -1,14 +1,14 @@
 // One line of the log, put into a lent buffer.
-use crate::text::put_byte;
-use crate::text::put_decimal;
-use crate::text::put_hex;
-use crate::text::wide;
 use octets::put;
 use state::Refusal;
+use text::put_byte;
+use text::put_decimal;
+use text::put_hex;
+use text::wide;
 ghost use mathlib.Core.List.{_++_, map};
 ghost use Rattle.state.specs.Verdict.{numbersOf};
 ghost use Rattle.octets.specs.Text.{ascii, Puts};
-ghost use Rattle.log.specs.Text.{decimal};
+ghost use Rattle.text.specs.Decimal.{decimal};
 ghost use Rattle.log.specs.Line.{answerReply, deliveredFields, answerFields, spaced, lineOf, tooLong};
 
 // What was done with a frame.

@@ -48,7 +48,7 @@ struct Line {
 fn put_place(note: &mut [u8], program: &[u8], number: usize) -> usize {
     let next = put(note, 0, program);
     let next = put(note, next, b": line ");
-    let next = log::put_decimal(note, next, number);
+    let next = text::put_decimal(note, next, number);
     put(note, next, b": ")
 }
 

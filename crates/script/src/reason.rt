@@ -23,6 +23,6 @@ pub(crate) fn put_fault(note: &mut [u8], at: usize, fault: Fault) -> usize {
 pub(crate) fn put_refusal(note: &mut [u8], at: usize, refusal: Refusal) -> usize {
     let next = log::put_reason(note, at, refusal);
     let next = put(note, next, b" (");
-    let next = log::put_decimal(note, next, refusal.number() as usize);
+    let next = text::put_decimal(note, next, refusal.number() as usize);
     put(note, next, b")")
 }

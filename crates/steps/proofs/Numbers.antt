@@ -6,7 +6,7 @@ use mathlib.Core.List.{List, [], _∷_}
 use mathlib.Core.Bool.{Bool, true, false}
 use lib.Dec.{leb}
 use borrow.Author.Tests.{leb-true, leb-false}
-use Rattle.log.specs.Text.{readOn}
+use Rattle.text.specs.Decimal.{readOn}
 use Rattle.steps.specs.Fields.{most}
 
 -- more digits make no number smaller

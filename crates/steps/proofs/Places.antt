@@ -6,7 +6,7 @@ use mathlib.Core.List.{List}
 use mathlib.Core.Bool.{Bool, true, false, cond}
 use lib.Dec.{eqb, ltb}
 use lib.ListN.{length}
-use Rattle.log.specs.Text.{valueOf}
+use Rattle.text.specs.Decimal.{valueOf}
 use Rattle.steps.specs.declared.Stop.the-variants.{Word, Blank, NotDecimal}
 use Rattle.steps.specs.declared.Fault.the-variants.{Sound, FieldMissing, NotANumber}
 use Rattle.steps.specs.declared.Field.{Field}

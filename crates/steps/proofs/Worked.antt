@@ -4,7 +4,7 @@ use Prim.Native.String.{String}
 use mathlib.Core.Path.{_≡_, refl}
 use mathlib.Core.List.{List, [], _∷_, _++_, map}
 use Rattle.octets.specs.Text.{ascii}
-use Rattle.log.specs.Text.{readOn}
+use Rattle.text.specs.Decimal.{readOn}
 use Rattle.steps.specs.declared.Fault.{Fault}
 use Rattle.steps.specs.declared.Fault.the-variants.{UnknownLetter, FieldMissing, NotANumber, NotHexadecimal, OddDigits, FieldTooMany}
 use Rattle.steps.specs.declared.Fault.the-variants.{ByteOrderMark, NothingExpected, NoStep}

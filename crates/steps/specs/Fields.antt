@@ -4,7 +4,7 @@ use mathlib.Core.List.{List, [], _∷_}
 use mathlib.Core.Bool.{Bool, true, false, _&&_, cond}
 use lib.Dec.{ltb, eqb}
 use lib.ListN.{length, getD}
-use Rattle.log.specs.Text.{valueOf}
+use Rattle.text.specs.Decimal.{valueOf}
 use Rattle.steps.specs.declared.Stop.the-variants.{NotDecimal, NotHex}
 use Rattle.steps.specs.declared.Fault.{Fault}
 use Rattle.steps.specs.declared.Fault.the-variants.{Sound, FieldMissing, NotANumber, NotHexadecimal, OddDigits, FieldTooMany}

@@ -5,7 +5,7 @@ use mathlib.Core.Bool.{Bool, true, false, not, _&&_, _||_, cond}
 use lib.Dec.{ltb, leb, eqb}
 use lib.ListN.{length, drop}
 use Rattle.octets.specs.Lists.{part}
-use Rattle.log.specs.Text.{isDigit}
+use Rattle.text.specs.Decimal.{isDigit}
 use Rattle.steps.specs.declared.Stop.{Stop}
 use Rattle.steps.specs.declared.Stop.the-variants.{LineEnd, Comment, Equals, Word, Blank, NotDecimal, NotHex}
 

@@ -11,7 +11,7 @@ use octets::minus;
 ghost use mathlib.Core.Path.{_≡_};
 ghost use Prim.Native.Nat.{min, _<_, _≤_};
 ghost use lib.ListN.{length, take};
-ghost use Rattle.log.specs.Text.{valueOf};
+ghost use Rattle.text.specs.Decimal.{valueOf};
 ghost use Rattle.octets.specs.Lists.{overwrite};
 ghost use Rattle.steps.specs.Fields.{most, absent, numberOf, numberField, dataField, dataBytes, endFault};
 

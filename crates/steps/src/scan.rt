@@ -2,7 +2,7 @@
 use crate::Stop;
 use crate::data::hex_value;
 ghost use mathlib.Core.Path.{_≡_};
-ghost use Rattle.log.specs.Text.{isDigit};
+ghost use Rattle.text.specs.Decimal.{isDigit};
 ghost use lib.Dec.{eqb};
 ghost use Rattle.steps.specs.Scan.{isBlank, isHex, stops, place, front, hasWord};
 

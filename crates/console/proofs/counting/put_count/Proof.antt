@@ -6,8 +6,8 @@ use mathlib.Core.List.{List, [], _++_}
 use borrow.Author.Needs.{needs}
 use borrow.Author.Tests.{eq-eqb, ne-eqb}
 use Rattle.octets.specs.Text.{ascii}
-use Rattle.log.specs.Text.{decimal}
-use Rattle.log.proofs.Putting.{puts-is, puts-both}
+use Rattle.text.specs.Decimal.{decimal}
+use Rattle.text.proofs.Putting.{puts-is, puts-both}
 use Rattle.console.specs.Counting.{counted}
 use Rattle.console.proofs.counting.put_count.Statement.{statement}
 use Rattle.console.proofs.counting.put_count.Tie as tie

@@ -5,8 +5,8 @@ use mathlib.Core.List.{List, [], _++_}
 use borrow.Author.Needs.{needs}
 use borrow.Author.Tests.{le-leb, lt-leb}
 use Rattle.octets.specs.Text.{ascii}
-use Rattle.log.specs.Text.{decimal}
-use Rattle.log.proofs.Putting.{puts-is, puts-both}
+use Rattle.text.specs.Decimal.{decimal}
+use Rattle.text.proofs.Putting.{puts-is, puts-both}
 use Rattle.console.specs.Counting.{lost}
 use Rattle.console.proofs.counting.put_lost.Statement.{statement}
 use Rattle.console.proofs.counting.put_lost.Tie as tie

@@ -5,8 +5,8 @@ use mathlib.Core.List.{List, [], _++_}
 use mathlib.Core.Bool.{Bool, true, false}
 use borrow.Author.Needs.{needs}
 use Rattle.octets.specs.Text.{ascii, Puts}
-use Rattle.log.specs.Text.{decimal}
-use Rattle.log.proofs.Putting.{puts-is, puts-both}
+use Rattle.text.specs.Decimal.{decimal}
+use Rattle.text.proofs.Putting.{puts-is, puts-both}
 use Rattle.console.specs.Counting.{counted, told}
 use Rattle.console.proofs.counting.put_run.Statement.{statement}
 use Rattle.console.proofs.counting.put_run.Tie as tie

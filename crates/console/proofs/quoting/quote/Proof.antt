@@ -10,7 +10,7 @@ use borrow.Author.Tests.{lt-ltb, le-ltb}
 use denote.Ref.{now}
 use borrow.Author.Needs.{needs}
 use Rattle.octets.specs.Text.{ascii, Puts}
-use Rattle.log.proofs.Putting.{puts-is, puts-none, puts-both, puts-length}
+use Rattle.text.proofs.Putting.{puts-is, puts-none, puts-both, puts-length}
 use Rattle.console.specs.Quoting.{quotedByte, quotedAll, quoted}
 use Rattle.console.proofs.quoting.quote.Statement.{statement}
 use Rattle.console.proofs.quoting.quote.Tie as tie

@@ -9,8 +9,8 @@ use lib.ListN.{length, getD}
 use denote.Ref.{now}
 use borrow.Author.Needs.{needs}
 use Rattle.octets.specs.Text.{ascii}
-use Rattle.log.specs.Text.{hexPair, hexadecimal}
-use Rattle.log.proofs.Putting.{puts-is, puts-both}
+use Rattle.text.specs.Hexadecimal.{hexPair, hexadecimal}
+use Rattle.text.proofs.Putting.{puts-is, puts-both}
 use Rattle.console.specs.Quoting.{isPlain, quotedByte}
 use Rattle.console.proofs.quoting.quote_byte.Statement.{statement}
 use Rattle.console.proofs.quoting.quote_byte.Tie as tie

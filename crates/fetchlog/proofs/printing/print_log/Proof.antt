@@ -11,7 +11,7 @@ use denote.Ref.{now}
 use borrow.Author.Needs.{needs}
 use Rattle.octets.specs.Text.{Puts}
 use Rattle.log.specs.Line.{lineOf}
-use Rattle.log.proofs.Putting.{puts-past}
+use Rattle.text.proofs.Putting.{puts-past}
 use Rattle.journal.specs.Step.{Device, deviceOf}
 use Rattle.journal.specs.Frame.{isReadable, letterOf, frameSays, frameDelivers}
 use Rattle.journal.specs.Run.{Replays}

@@ -6,7 +6,7 @@ use lib.Seq.{length-take-le}
 use borrow.Author.Needs.{needs}
 use Rattle.state.specs.Verdict.{Reply, accepted}
 use Rattle.log.specs.Line.{lineOf}
-use Rattle.log.proofs.Putting.{puts-is}
+use Rattle.text.proofs.Putting.{puts-is}
 use Rattle.journal.proofs.line.log_frame.Statement.{statement}
 use Rattle.journal.proofs.line.log_frame.Tie as tie
 

@@ -11,10 +11,10 @@ use Rattle.state.specs.Refusals.{number}
 use Rattle.log.specs.declared.line.Answer.{Answer}
 use Rattle.log.specs.declared.line.Answer.the-variants.{Done, Count, Counts, Refused}
 use Rattle.octets.specs.Text.{ascii, Puts}
-use Rattle.log.specs.Text.{decimal}
+use Rattle.text.specs.Decimal.{decimal}
 use Rattle.state.specs.Verdict.{numbersOf}
 use Rattle.log.specs.Line.{answerReply, deliveredFields, answerFields, spaced}
-use Rattle.log.proofs.Putting.{puts-is, puts-both}
+use Rattle.text.proofs.Putting.{puts-is, puts-both}
 use Rattle.log.proofs.line.Answer.{the-type}
 use Rattle.log.proofs.line.put_answer.Statement.{statement}
 use Rattle.log.proofs.line.put_answer.Tie as tie

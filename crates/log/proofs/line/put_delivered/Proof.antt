@@ -8,9 +8,9 @@ use denote.Ref.{now}
 use borrow.Author.Tests.{eq-eqb, ne-eqb}
 use borrow.Author.Needs.{needs}
 use Rattle.octets.specs.Text.{ascii, Puts}
-use Rattle.log.specs.Text.{hexadecimal}
+use Rattle.text.specs.Hexadecimal.{hexadecimal}
 use Rattle.log.specs.Line.{fetchLetter, deliveredFields, spaced}
-use Rattle.log.proofs.Putting.{puts-is, puts-both}
+use Rattle.text.proofs.Putting.{puts-is, puts-both}
 use Rattle.log.proofs.line.put_delivered.Statement.{statement}
 use Rattle.log.proofs.line.put_delivered.Tie as tie
 

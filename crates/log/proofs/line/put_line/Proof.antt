@@ -1,7 +1,7 @@
 -- The parts of a line are put one behind the other.
 use borrow.Author.Needs.{needs}
 use Rattle.log.specs.Line.{spaced, lineOf}
-use Rattle.log.proofs.Putting.{puts-both}
+use Rattle.text.proofs.Putting.{puts-both}
 use Rattle.log.proofs.line.put_line.Statement.{statement}
 use Rattle.log.proofs.line.put_line.Tie as tie
 

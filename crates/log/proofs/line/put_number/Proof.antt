@@ -1,6 +1,6 @@
 -- The blank is put, and the number behind it.
 use borrow.Author.Needs.{needs}
-use Rattle.log.proofs.Putting.{puts-both}
+use Rattle.text.proofs.Putting.{puts-both}
 use Rattle.log.proofs.line.put_number.Statement.{statement}
 use Rattle.log.proofs.line.put_number.Tie as tie
 

@@ -9,10 +9,10 @@ use borrow.Author.Needs.{needs}
 use Rattle.log.specs.declared.line.Answer.{Answer}
 use Rattle.log.specs.declared.line.Answer.the-variants.{Done, Count, Counts, Refused}
 use Rattle.octets.specs.Text.{ascii, Puts}
-use Rattle.log.specs.Text.{decimal}
+use Rattle.text.specs.Decimal.{decimal}
 use Rattle.state.specs.Verdict.{numbersOf}
 use Rattle.log.specs.Line.{answerReply, spaced}
-use Rattle.log.proofs.Putting.{puts-is, puts-both}
+use Rattle.text.proofs.Putting.{puts-is, puts-both}
 use Rattle.log.proofs.line.Answer.{the-type}
 use Rattle.log.proofs.line.put_numbers.Statement.{statement}
 use Rattle.log.proofs.line.put_numbers.Tie as tie

@@ -1,6 +1,6 @@
 -- The blank is put, and the word behind it.
 use borrow.Author.Needs.{needs}
-use Rattle.log.proofs.Putting.{puts-both}
+use Rattle.text.proofs.Putting.{puts-both}
 use Rattle.log.proofs.line.put_word.Statement.{statement}
 use Rattle.log.proofs.line.put_word.Tie as tie
 

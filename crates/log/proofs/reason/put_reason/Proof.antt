@@ -13,7 +13,7 @@ use Rattle.state.specs.declared.refusal.Refusal.{Refusal}
 use Rattle.state.specs.declared.refusal.Refusal.the-variants.{FrameTooShort, UnknownKind, FieldNotZero, LengthTooLong, DataMismatch, CommandTooHigh, WindowTooLong, StoreWrongSize, OutsideWindow, BufferTooShort, AddressTooHigh, StateBroken, CommandNotOpen, CommandAlreadyOpen, TooManyBytes, TooManyRecords, NoSuchRecord}
 use Rattle.state.specs.Refusals.{reason, padded}
 use Rattle.log.specs.Reason.{filled}
-use Rattle.log.proofs.Putting.{puts-is}
+use Rattle.text.proofs.Putting.{puts-is}
 use Rattle.log.proofs.reason.put_reason.Statement.{statement}
 use Rattle.log.proofs.reason.put_reason.Tie as tie
 

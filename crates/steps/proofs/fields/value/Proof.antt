@@ -6,7 +6,7 @@ use mathlib.Core.Path.{_≡_, refl, ap, _∙_}
 use lib.ListN.{length, drop, getD, drop-of-length-le}
 use lib.Seq.{drop-cons}
 use denote.Ref.{now}
-use Rattle.log.specs.Text.{readOn, valueOf}
+use Rattle.text.specs.Decimal.{readOn, valueOf}
 use Rattle.steps.specs.Fields.{most}
 use Rattle.steps.proofs.Numbers.{next-digit}
 use borrow.Author.Needs.{needs}

@@ -1,17 +1,13 @@
-// Numbers put into a lent buffer in decimal, and bytes in hexadecimal. Each function takes every input: what
-// does not fit is left out, and the reply is the place behind what was put.
+// Bytes in hexadecimal.
+use crate::byte::put_byte;
+use crate::byte::wide;
 use octets::lesser;
-use octets::put;
 ghost use mathlib.Core.Path.{_≡_};
-ghost use mathlib.Core.List.{[], _∷_};
-ghost use Prim.Native.Nat.{_*_, _<_, _≤_};
+ghost use Prim.Native.Nat.{_*_, _≤_};
 ghost use lib.ListN.{length};
 ghost use Rattle.octets.specs.Lists.{overwrite};
 ghost use Rattle.octets.specs.Text.{Puts};
-ghost use Rattle.log.specs.Text.{digit, decimal, hexPair, hexadecimal, hexTable};
-
-// The most digits of a number of 64 bits.
-const DIGITS: usize = 20;
+ghost use Rattle.text.specs.Hexadecimal.{hexPair, hexadecimal, hexTable};
 
 // Byte b stands at places 2 * b and 2 * b + 1.
 const HEX: [u8; 512] = *b"\
@@ -23,41 +19,6 @@ const HEX: [u8; 512] = *b"\
     a0a1a2a3a4a5a6a7a8a9aaabacadaeafb0b1b2b3b4b5b6b7b8b9babbbcbdbebf\
     c0c1c2c3c4c5c6c7c8c9cacbcccdcecfd0d1d2d3d4d5d6d7d8d9dadbdcdddedf\
     e0e1e2e3e4e5e6e7e8e9eaebecedeeeff0f1f2f3f4f5f6f7f8f9fafbfcfdfeff";
-
-pub(crate) fn put_byte(out: &mut [u8], at: usize, byte: u8) -> usize
-    ensures { λ r. ⌜ Puts (now (out .entry)) at (byte ∷ []) r (now (out .exit)) ⌝ }
-{
-    if at < out.len() {
-        out[at] = byte;
-        at + 1
-    } else {
-        out.len()
-    }
-}
-
-// The digits go into a buffer of their own, the last one first, from its end down.
-pub fn put_decimal(out: &mut [u8], at: usize, n: usize) -> usize
-    ensures { λ r. ⌜ Puts (now (out .entry)) at (decimal n) r (now (out .exit)) ⌝ }
-{
-    let mut digits = [0u8; DIGITS];
-    let mut start = DIGITS;
-    let mut rest = n;
-    while 10 <= rest {
-        start -= 1;
-        digits[start] = digit(rest % 10);
-        rest = rest / 10;
-    }
-    start -= 1;
-    digits[start] = digit(rest);
-    put(out, at, &digits[start..])
-}
-
-fn digit(n: usize) -> u8
-    requires { ⌜ n < 10 ⌝ }
-    ensures { λ r. ⌜ r ≡ digit n ⌝ }
-{
-    b'0' + n as u8
-}
 
 // The bytes for which there is room in pairs are put with no test of a place, and then what fits of the next one.
 pub fn put_hex(out: &mut [u8], at: usize, bytes: &[u8]) -> usize
@@ -106,10 +67,4 @@ fn put_pair(out: &mut [u8], at: usize, table: &[u8; 512], byte: u8) -> usize
     let place = 2 * wide(byte);
     let next = put_byte(out, at, table[place]);
     put_byte(out, next, table[place + 1])
-}
-
-pub(crate) fn wide(byte: u8) -> usize
-    ensures { λ r. ⌜ (r ≡ byte) × (r < 256) ⌝ }
-{
-    byte as usize
 }

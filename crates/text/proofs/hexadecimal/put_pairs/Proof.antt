@@ -8,10 +8,10 @@ use lib.Seq.{take-all}
 use denote.Ref.{now}
 use borrow.Author.Needs.{needs}
 use Rattle.octets.specs.Lists.{overwrite}
-use Rattle.log.specs.Text.{hexadecimal}
-use Rattle.log.proofs.Pairs.{table-pair, pair-stored}
-use Rattle.log.proofs.text.put_pairs.Statement.{statement}
-use Rattle.log.proofs.text.put_pairs.Tie as tie
+use Rattle.text.specs.Hexadecimal.{hexadecimal}
+use Rattle.text.proofs.Pairs.{table-pair, pair-stored}
+use Rattle.text.proofs.hexadecimal.put_pairs.Statement.{statement}
+use Rattle.text.proofs.hexadecimal.put_pairs.Tie as tie
 
 abbrev Inv-loop : tie.InvT-loop
 Inv-loop out₀ table bytes i₀ out i = (i ≤ length bytes) × (out ≡ overwrite out₀ 0 (hexadecimal (take i bytes))) × (length out ≡ length out₀)

@@ -7,11 +7,11 @@ use mathlib.Core.List.{List, _∷_, _++_, append-nil}
 use lib.ListN.{length, take, drop, set, length-set, length-drop}
 use lib.Seq.{take-all, append-snoc, drop-cons, getD-set-same, drop-set-lt}
 use borrow.Author.Needs.{needs}
-use Rattle.log.specs.Text.{digit, decimal}
-use Rattle.log.proofs.Putting.{puts-is}
-use Rattle.log.proofs.Digits.{decimal-small, decimal-large, tenth}
-use Rattle.log.proofs.text.put_decimal.Statement.{statement}
-use Rattle.log.proofs.text.put_decimal.Tie as tie
+use Rattle.text.specs.Decimal.{digit, decimal}
+use Rattle.text.proofs.Putting.{puts-is}
+use Rattle.text.proofs.Digits.{decimal-small, decimal-large, tenth}
+use Rattle.text.proofs.decimal.put_decimal.Statement.{statement}
+use Rattle.text.proofs.decimal.put_decimal.Tie as tie
 
 abbrev Inv-loop : tie.InvT-loop
 Inv-loop out at n digits₀ start₀ rest₀ digits start rest =

@@ -2,9 +2,9 @@
 use native.Mathlib.Omega.{arith}
 use denote.Ref.{now}
 use borrow.Author.Needs.{needs}
-use Rattle.log.proofs.Putting.{puts-one, puts-past}
-use Rattle.log.proofs.text.put_byte.Statement.{statement}
-use Rattle.log.proofs.text.put_byte.Tie as tie
+use Rattle.text.proofs.Putting.{puts-one, puts-past}
+use Rattle.text.proofs.byte.put_byte.Statement.{statement}
+use Rattle.text.proofs.byte.put_byte.Tie as tie
 
 slice-write-out : tie.Need-slice-write-out
 slice-write-out c = search needs

@@ -6,10 +6,10 @@ use lib.ListN.{getD}
 use denote.Ref.{now}
 use borrow.Author.Needs.{needs}
 use Rattle.octets.specs.Text.{Puts}
-use Rattle.log.proofs.Putting.{puts-is, puts-both}
-use Rattle.log.proofs.Pairs.{table-pair}
-use Rattle.log.proofs.text.put_pair.Statement.{statement}
-use Rattle.log.proofs.text.put_pair.Tie as tie
+use Rattle.text.proofs.Putting.{puts-is, puts-both}
+use Rattle.text.proofs.Pairs.{table-pair}
+use Rattle.text.proofs.hexadecimal.put_pair.Statement.{statement}
+use Rattle.text.proofs.hexadecimal.put_pair.Tie as tie
 
 wide-requires : tie.Need-wide-requires
 wide-requires c κs = search needs

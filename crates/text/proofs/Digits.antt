@@ -11,7 +11,7 @@ use lib.ListN.{length, getD, length-append, List·getD-append}
 use borrow.Author.Tests.{ltb-true, ltb-false, lt-ltb, le-ltb, le-leb}
 use Rattle.octets.specs.Lists.{all}
 use Rattle.octets.proofs.Lists.{both, and-left, and-right}
-use Rattle.log.specs.Text.{digit, digits, decimal, readOn, isDigit, DecimalReads, DecimalDigits, NoLeadingZero}
+use Rattle.text.specs.Decimal.{digit, digits, decimal, readOn, isDigit, DecimalReads, DecimalDigits, NoLeadingZero}
 
 -- a number with one digit, and one with more
 digits-small : (steps n : ℕ) → n < 10 → digits (suc steps) n ≡ digit n ∷ []

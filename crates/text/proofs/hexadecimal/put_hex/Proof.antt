@@ -9,12 +9,12 @@ use denote.Ref.{now}
 use Rattle.octets.specs.Lists.{overwrite, part}
 use Rattle.octets.proofs.Overwrite.{overwrite-lent}
 use Rattle.octets.specs.Text.{Puts}
-use Rattle.log.specs.Text.{hexPair, hexadecimal}
-use Rattle.log.proofs.Putting.{puts-is, puts-past, puts-both, puts-cut}
-use Rattle.log.proofs.Pairs.{hex-append, hex-more, length-hex}
+use Rattle.text.specs.Hexadecimal.{hexPair, hexadecimal}
+use Rattle.text.proofs.Putting.{puts-is, puts-past, puts-both, puts-cut}
+use Rattle.text.proofs.Pairs.{hex-append, hex-more, length-hex}
 use borrow.Author.Needs.{needs}
-use Rattle.log.proofs.text.put_hex.Statement.{statement}
-use Rattle.log.proofs.text.put_hex.Tie as tie
+use Rattle.text.proofs.hexadecimal.put_hex.Statement.{statement}
+use Rattle.text.proofs.hexadecimal.put_hex.Tie as tie
 
 returns : tie.Need-returns
 returns c = let args = c .before .before .before .args in puts-past (now (args .out)) (args .at) (hexadecimal (now (args .bytes))) (omega arith)

@@ -1,9 +1,9 @@
 -- The test of the whole table: it computes to every byte in hexadecimal.
 use mathlib.Core.Path.{refl}
 use Rattle.state.specs.Records.{span}
-use Rattle.log.specs.Text.{hexDigit, hexadecimal, hexTable}
-use Rattle.log.proofs.text.hex_table.Statement.{statement}
-use Rattle.log.proofs.text.hex_table.Tie as tie
+use Rattle.text.specs.Hexadecimal.{hexDigit, hexadecimal, hexTable}
+use Rattle.text.proofs.hexadecimal.hex_table.Statement.{statement}
+use Rattle.text.proofs.hexadecimal.hex_table.Tie as tie
 
 returns : tie.Need-returns
 unfolding hexTable hexadecimal hexDigit span

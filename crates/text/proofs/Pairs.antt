@@ -11,7 +11,7 @@ use Rattle.octets.specs.Lists.{overwrite}
 use Rattle.octets.proofs.Overwrite.{overwrite-then, length-overwrite}
 use Rattle.state.specs.Records.{span}
 use Rattle.state.proofs.Places.{length-span}
-use Rattle.log.specs.Text.{hexDigit, hexPair, hexadecimal, hexTable, TablePairs}
+use Rattle.text.specs.Hexadecimal.{hexDigit, hexPair, hexadecimal, hexTable, TablePairs}
 
 pub hex-append : (xs ys : List ℕ) → hexadecimal (xs ++ ys) ≡ hexadecimal xs ++ hexadecimal ys
 unfolding hexadecimal

@@ -1,12 +1,11 @@
--- Numbers in decimal and bytes in hexadecimal, as text.
-use Prim.Native.Nat.{ℕ, zero, suc, _+_, _-_, _*_, _/_, _%_, _<_}
+-- Numbers in decimal, as text.
+use Prim.Native.Nat.{ℕ, zero, suc, _+_, _-_, _*_, _/_, _%_}
 use Prim.Native.Char.{code}
 use mathlib.Core.Path.{_≡_}
 use mathlib.Core.List.{List, [], _∷_, _++_}
-use mathlib.Core.Bool.{Bool, true, false, _&&_, cond}
+use mathlib.Core.Bool.{Bool, true, false, _&&_}
 use lib.Dec.{ltb, leb}
-use Rattle.octets.specs.Lists.{part, all}
-use Rattle.state.specs.Records.{span}
+use Rattle.octets.specs.Lists.{all}
 
 -- the character of a decimal digit
 abbrev pub digit : ℕ → ℕ
@@ -41,22 +40,3 @@ DecimalDigits = (n : ℕ) → all isDigit (decimal n) ≡ true
 
 abbrev pub NoLeadingZero : Type 0
 NoLeadingZero = (n : ℕ) (rest : List ℕ) → decimal n ≡ code "0" ∷ rest → n ≡ 0
-
--- 01's lower-case hexadecimal: a digit, the two characters of a byte, and bytes unbroken
-unfoldable pub hexDigit : ℕ → ℕ
-hexDigit d = cond (ltb d 10) (digit d) (code "a" + (d - 10))
-
-abbrev pub hexPair : ℕ → List ℕ
-hexPair byte = hexDigit (byte / 16) ∷ hexDigit (byte % 16) ∷ []
-
-unfoldable pub hexadecimal : List ℕ → List ℕ
-hexadecimal [] = []
-hexadecimal (byte ∷ bytes) = hexPair byte ++ hexadecimal bytes
-
--- 01's table of 512 characters: every byte in hexadecimal, one behind the other
-unfoldable pub hexTable : List ℕ
-hexTable = hexadecimal (span 0 256)
-
--- and so byte b is at places 2 × b and 2 × b + 1
-abbrev pub TablePairs : Type 0
-TablePairs = (byte : ℕ) → byte < 256 → part hexTable (2 * byte) 2 ≡ hexPair byte
