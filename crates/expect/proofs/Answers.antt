@@ -7,7 +7,7 @@ use mathlib.Core.Bool.{Bool, true, not, _&&_}
 use Rattle.octets.specs.Lists.{all}
 use Rattle.octets.specs.Text.{ascii}
 use Rattle.expect.specs.declared.Span.{Span}
-use Rattle.steps.specs.Scan.{before, front}
+use Rattle.scan.specs.Scan.{before, front}
 use Rattle.expect.specs.Expect.{expected, wordsOn, wordsOf, lower, same, isVerdict, delivers, meetsWords, meets}
 
 abbrev span : (start end : ℕ) → Span

@@ -1,8 +1,8 @@
 -- The expectation of a line lies in the line.
 use native.Mathlib.Omega.{arith}
 use lib.ListN.{length-take}
-use Rattle.steps.specs.declared.Stop.the-variants.{Comment}
-use Rattle.steps.specs.Scan.{place}
+use Rattle.scan.specs.declared.Stop.the-variants.{Comment}
+use Rattle.scan.specs.Scan.{place}
 use Rattle.expect.specs.Expect.{expected}
 use Rattle.expect.specs.Claims.{ExpectedInside}
 

@@ -8,10 +8,10 @@ use lib.Dec.{ltb}
 use lib.ListN.{length, take, drop, getD, length-append, length-drop, drop-of-length-le}
 use lib.Seq.{drop-cons, drop-drop, getD-drop, take-nil}
 use borrow.Author.Tests.{ltb-true, ltb-false, lt-ltb, le-ltb, not-true}
-use Rattle.steps.specs.declared.Stop.the-variants.{Word, Blank}
-use Rattle.steps.specs.Scan.{isBlank, stops, before, wordStart, wordEnd, wordAt, hasWord}
+use Rattle.scan.specs.declared.Stop.the-variants.{Word, Blank}
+use Rattle.scan.specs.Scan.{isBlank, stops, before, wordStart, wordEnd, wordAt, hasWord}
 use Rattle.expect.specs.Expect.{ended, wordsOn, wordsOf}
-use Rattle.steps.proofs.Scanning.{stopped}
+use Rattle.scan.proofs.Scanning.{stopped}
 
 -- how many bytes stand before the next blank, and before the next byte that is none
 abbrev letters : List ℕ → ℕ

@@ -6,7 +6,7 @@ use lib.Dec.{leb, eqb}
 use lib.ListN.{length, getD}
 use Rattle.octets.specs.Text.{ascii}
 use Rattle.expect.specs.declared.Span.{Span}
-use Rattle.steps.specs.Scan.{isBlank, front}
+use Rattle.scan.specs.Scan.{isBlank, front}
 use Rattle.steps.specs.Line.{textOf, cutOf}
 
 -- the expectation of a line: what stands behind the first `=` of its text; nothing, at the end of the text, if no `=` stands in it

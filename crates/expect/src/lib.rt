@@ -1,14 +1,14 @@
 // What is expected of a step, and whether an answer meets it.
 use octets::lesser;
-use steps::Stop;
-use steps::has_word;
-use steps::until;
+use scan::Stop;
+use scan::has_word;
+use scan::until;
 ghost use mathlib.Core.Path.{_≡_};
 ghost use mathlib.Core.List.{[]};
 ghost use Prim.Native.Nat.{_+_, _≤_};
 ghost use lib.Dec.{ltb, eqb};
 ghost use lib.ListN.{length, drop, getD};
-ghost use Rattle.steps.specs.Scan.{front};
+ghost use Rattle.scan.specs.Scan.{front};
 ghost use Rattle.expect.specs.Expect.{expected, wordsOf, lower, same, isVerdict, delivers, meets};
 
 // A part of a line: its first place, and the one behind its last.

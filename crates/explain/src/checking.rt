@@ -4,7 +4,7 @@ ghost use lib.ListN.{length};
 use crate::unit::put_trimmed;
 use octets::lesser;
 use octets::put;
-use steps::Stop;
+use scan::Stop;
 
 pub(crate) enum Met {
     NothingExpected,
@@ -16,7 +16,7 @@ pub(crate) enum Met {
 fn answer_start(logged: &[u8]) -> usize
     ensures { λ r. ⌜ r ≤ length (now (logged .entry)) ⌝ }
 {
-    let blank = lesser(steps::until(logged, 0, Stop::Blank), 20);
+    let blank = lesser(scan::until(logged, 0, Stop::Blank), 20);
     lesser(blank + 3, logged.len())
 }
 

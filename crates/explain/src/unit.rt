@@ -3,8 +3,8 @@ ghost use Rattle.io.specs.Counts.{Counts};
 use octets::copy_front;
 use octets::lesser;
 use octets::put;
+use scan::Stop;
 use steps::Framed;
-use steps::Stop;
 use text::put_decimal;
 
 // How many bytes of the buffer are the frame's (none for a blank line), and the place behind the beginning of the line.
@@ -17,7 +17,7 @@ pub(crate) struct Unit {
 pub(crate) fn line_end(rest: &[u8]) -> usize
     ensures { λ r. ⌜ Counts r (now (rest .entry)) ⌝ }
 {
-    console::within(rest, steps::until(rest, 0, Stop::LineEnd))
+    console::within(rest, scan::until(rest, 0, Stop::LineEnd))
 }
 
 // What is left of the input begins with a frame, if it is readable.
@@ -59,14 +59,14 @@ pub(crate) fn next_line(
 
 // A line without its comment.
 fn put_step(line: &mut [u8], at: usize, step: &[u8]) -> usize {
-    let n = console::within(step, steps::until(step, 0, Stop::Comment));
+    let n = console::within(step, scan::until(step, 0, Stop::Comment));
     put_trimmed(line, at, &step[..n])
 }
 
 // A text without the blanks at both ends, quoted.
 pub(crate) fn put_trimmed(line: &mut [u8], at: usize, text: &[u8]) -> usize {
     let to = lesser(words_end(text), text.len());
-    let from = lesser(steps::until(text, 0, Stop::Word), to);
+    let from = lesser(scan::until(text, 0, Stop::Word), to);
     console::quote(line, at, &text[from..to])
 }
 
@@ -74,7 +74,7 @@ pub(crate) fn put_trimmed(line: &mut [u8], at: usize, text: &[u8]) -> usize {
 fn words_end(text: &[u8]) -> usize {
     let mut n = text.len();
     while 0 < n {
-        if steps::until(&text[n - 1..n], 0, Stop::Word) == 0 {
+        if scan::until(&text[n - 1..n], 0, Stop::Word) == 0 {
             return n;
         }
         n -= 1;

@@ -4,11 +4,11 @@ use libc::STDERR_FILENO;
 use libc::STDOUT_FILENO;
 use octets::one_if;
 use octets::put;
+use scan::Stop;
 use script::Judged;
 use script::Judgement;
 use state::CacheState;
 use steps::Framed;
-use steps::Stop;
 
 // The most bytes of a journal that fetchlog takes.
 const JOURNAL: usize = 32768;
@@ -130,7 +130,7 @@ fn write_frames(input: &[u8]) -> usize {
     let mut kept = 0;
     let mut at = 0;
     while at < input.len() {
-        let end = steps::until(input, at, Stop::LineEnd);
+        let end = scan::until(input, at, Stop::LineEnd);
         let written = write_frame(&input[at..end], &mut buffer, &mut frame);
         kept += one_if(written.kept);
         if written.lost {

@@ -6,9 +6,9 @@ use crate::reason::put_fault;
 use crate::reason::put_refusal;
 use octets::one_if;
 use octets::put;
+use scan::Stop;
 use state::CacheState;
 use steps::Framed;
-use steps::Stop;
 
 // The most bytes of a file of steps.
 pub const MOST: usize = 1048576;
@@ -101,7 +101,7 @@ fn judge_lines(program: &[u8], input: &[u8]) -> Judged
     let mut number = 0;
     let mut at = 0;
     while at < input.len() {
-        let end = steps::until(input, at, Stop::LineEnd);
+        let end = scan::until(input, at, Stop::LineEnd);
         number += 1;
         let line = judge_line(program, number, &input[at..end], &mut buffer, &mut frame);
         bad += one_if(line.bad);

@@ -13,12 +13,12 @@ use Rattle.steps.specs.declared.Fault.the-variants.{UnknownLetter, ByteO
 use Rattle.steps.specs.declared.Step.{Step}
 use Rattle.steps.specs.declared.Meaning.{Meaning}
 use Rattle.steps.specs.declared.Meaning.the-variants.{Nothing, Step as StepMeant, Bad}
-use Rattle.steps.specs.Scan.{wordEnd, wordAt, hasWord}
+use Rattle.scan.specs.Scan.{wordEnd, wordAt, hasWord}
 use Rattle.steps.specs.Fields.{dataField, dataBytes}
 use Rattle.steps.specs.Line.{isSound, judged, sizeField, fieldsMean, fieldsData, stepKind, stepMeans, stepData}
 use Rattle.steps.specs.Line.{expecting, cutOf, stepOf, textMeans, isMarked, textOf, lineMeans, lineData}
 use Rattle.steps.specs.Claims.{GivenAll, DataHanded}
-use Rattle.steps.proofs.Bytes.{bytes-length}
+use Rattle.scan.proofs.Bytes.{bytes-length}
 
 -- a step that is meant is given as many bytes as these
 abbrev Given : Meaning → List ℕ → Type 0

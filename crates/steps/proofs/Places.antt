@@ -7,15 +7,13 @@ use mathlib.Core.Bool.{Bool, true, false, cond}
 use lib.Dec.{eqb, ltb}
 use lib.ListN.{length}
 use Rattle.text.specs.Decimal.{valueOf}
-use Rattle.steps.specs.declared.Stop.the-variants.{Word, Blank, NotDecimal}
+use Rattle.scan.specs.declared.Stop.the-variants.{NotDecimal}
 use Rattle.steps.specs.declared.Fault.the-variants.{Sound, FieldMissing, NotANumber}
 use Rattle.steps.specs.declared.Field.{Field}
-use Rattle.steps.specs.Scan.{place, wordStart, wordEnd, wordAt}
-use Rattle.steps.specs.Fields.{field, most, numberOf, numberField}
-use Rattle.steps.proofs.Scanning.{place-most}
-
-pub word-end-most : (text : List ℕ) (at : ℕ) → at ≤ length text → wordEnd text at ≤ length text
-word-end-most text at inside = place-most Blank text (wordStart text at) (place-most Word text at inside)
+use Rattle.scan.specs.Scan.{place, wordEnd, wordAt}
+use Rattle.scan.specs.Values.{most}
+use Rattle.steps.specs.Fields.{field, numberOf, numberField}
+use Rattle.scan.proofs.Scanning.{word-end-most}
 
 -- whatever two tests say, the place is the one given
 either : (s t : Bool) (f g h : Field) (next : ℕ) → f .next ≡ next → g .next ≡ next → h .next ≡ next → cond s f (cond t g h) .next ≡ next

@@ -10,8 +10,9 @@ use Rattle.steps.specs.declared.Fault.the-variants.{UnknownLetter, Field
 use Rattle.steps.specs.declared.Fault.the-variants.{ByteOrderMark, NothingExpected, NoStep}
 use Rattle.steps.specs.declared.Meaning.{Meaning}
 use Rattle.steps.specs.declared.Meaning.the-variants.{Nothing, Step as StepMeant, Bad}
-use Rattle.steps.specs.Scan.{before, front, hexValue}
-use Rattle.steps.specs.Fields.{numberOf, numberField, bytesOf, dataFault, dataField, dataBytes, endFault}
+use Rattle.scan.specs.Scan.{before, front, hexValue}
+use Rattle.scan.specs.Values.{bytesOf}
+use Rattle.steps.specs.Fields.{numberOf, numberField, dataFault, dataField, dataBytes, endFault}
 use Rattle.steps.specs.Line.{kindFor, kindNamed, hasSize, sizeOf, firstFault, judged, fieldsMean, fieldsData, stepMeans, stepData}
 use Rattle.steps.specs.Line.{textMeans, isMarked, lineMeans, lineData}
 

@@ -1,19 +1,16 @@
 -- What the fields of a line say.
-use Prim.Native.Nat.{ℕ, _+_, _*_, _/_, _%_, min}
-use mathlib.Core.List.{List, [], _∷_}
+use Prim.Native.Nat.{ℕ, _/_, _%_, min}
+use mathlib.Core.List.{List, []}
 use mathlib.Core.Bool.{Bool, true, false, _&&_, cond}
 use lib.Dec.{ltb, eqb}
 use lib.ListN.{length, getD}
 use Rattle.text.specs.Decimal.{valueOf}
-use Rattle.steps.specs.declared.Stop.the-variants.{NotDecimal, NotHex}
+use Rattle.scan.specs.declared.Stop.the-variants.{NotDecimal, NotHex}
 use Rattle.steps.specs.declared.Fault.{Fault}
 use Rattle.steps.specs.declared.Fault.the-variants.{Sound, FieldMissing, NotANumber, NotHexadecimal, OddDigits, FieldTooMany}
 use Rattle.steps.specs.declared.Field.{Field}
-use Rattle.steps.specs.Scan.{hexValue, place, wordEnd, wordAt, hasWord}
-
--- a number above this counts as this one, which is above every limit of a step
-abbrev pub most : ℕ
-most = 1000000
+use Rattle.scan.specs.Scan.{place, wordEnd, wordAt, hasWord}
+use Rattle.scan.specs.Values.{most, bytesOf}
 
 abbrev pub field : ℕ → ℕ → Fault → Field
 field value next fault = record { value = value; next = next; fault = fault }
@@ -32,16 +29,6 @@ absent at = field 0 at Sound
 unfoldable pub numberField : (text : List ℕ) (at : ℕ) (wanted : Bool) → Field
 numberField text at true = numberOf (wordAt text at) (wordEnd text at)
 numberField text at false = absent at
-
--- the byte of two hexadecimal digits; what is no digit counts as 0
-abbrev pub pairValue : ℕ → ℕ → ℕ
-pairValue high low = hexValue high % 16 * 16 + hexValue low % 16
-
--- the bytes of hexadecimal digits, two and two
-unfoldable pub bytesOf : List ℕ → List ℕ
-bytesOf [] = []
-bytesOf (high ∷ []) = []
-bytesOf (high ∷ low ∷ rest) = pairValue high low ∷ bytesOf rest
 
 -- a dash, which stands for no data
 abbrev pub isDash : List ℕ → Bool

@@ -5,7 +5,7 @@ use mathlib.Core.Bool.{Bool, true, false, not, _&&_, _||_, cond}
 use lib.Dec.{ltb, eqb}
 use lib.ListN.{length, take, getD}
 use Rattle.frames.specs.Kinds.{Kind, kinds, kindOf, isKind}
-use Rattle.steps.specs.declared.Stop.the-variants.{Comment, Equals}
+use Rattle.scan.specs.declared.Stop.the-variants.{Comment, Equals}
 use Rattle.steps.specs.declared.Fault.{Fault}
 use Rattle.steps.specs.declared.Fault.the-variants.{Sound, UnknownLetter, FieldMissing, NotANumber, NotHexadecimal, OddDigits, FieldTooMany}
 use Rattle.steps.specs.declared.Fault.the-variants.{ByteOrderMark, NothingExpected, NoStep}
@@ -13,7 +13,7 @@ use Rattle.steps.specs.declared.Field.{Field}
 use Rattle.steps.specs.declared.Step.{Step}
 use Rattle.steps.specs.declared.Meaning.{Meaning}
 use Rattle.steps.specs.declared.Meaning.the-variants.{Nothing, Step as Steps, Bad}
-use Rattle.steps.specs.Scan.{before, front, place, wordEnd, wordAt, hasWord}
+use Rattle.scan.specs.Scan.{before, front, place, wordEnd, wordAt, hasWord}
 use Rattle.steps.specs.Fields.{numberField, dataField, dataBytes, endFault}
 
 -- the kind that has a letter in the table, and 5 if none has

@@ -1,41 +1,16 @@
 // The fields of a line: words that stand for numbers, and then one that stands for data.
 use crate::Fault;
 use crate::Field;
-use crate::Stop;
-use crate::data::data_fault;
-use crate::data::decode;
-use crate::scan::has_word;
-use crate::scan::until;
-use octets::lesser;
-use octets::minus;
+use scan::Stop;
+use scan::decode;
+use scan::has_word;
+use scan::until;
+use scan::value;
 ghost use mathlib.Core.Path.{_≡_};
-ghost use Prim.Native.Nat.{min, _<_, _≤_};
+ghost use Prim.Native.Nat.{_≤_};
 ghost use lib.ListN.{length, take};
-ghost use Rattle.text.specs.Decimal.{valueOf};
 ghost use Rattle.octets.specs.Lists.{overwrite};
-ghost use Rattle.steps.specs.Fields.{most, absent, numberOf, numberField, dataField, dataBytes, endFault};
-
-// A number above this counts as this one, which is above every limit of a step.
-const MOST: usize = 1000000;
-
-fn wide(byte: u8) -> usize
-    ensures { λ r. ⌜ (r ≡ byte) × (r < 256) ⌝ }
-{
-    byte as usize
-}
-
-// The number that decimal digits stand for.
-fn value(word: &[u8]) -> usize
-    ensures { λ r. ⌜ r ≡ min most (valueOf (now (word .entry))) ⌝ }
-{
-    let mut value = 0;
-    let mut i = 0;
-    while i < word.len() {
-        value = lesser(MOST, value * 10 + minus(wide(word[i]), 48));
-        i += 1;
-    }
-    value
-}
+ghost use Rattle.steps.specs.Fields.{absent, numberOf, numberField, isDash, dataFault, dataField, dataBytes, endFault};
 
 fn number(word: &[u8], next: usize) -> Field
     ensures { λ r. ⌜ r ≡ numberOf (now (word .entry)) next ⌝ }
@@ -114,4 +89,29 @@ pub(crate) fn end_fault(text: &[u8], at: usize) -> Fault
         return Fault::FieldTooMany;
     }
     Fault::Sound
+}
+
+// What is wrong with a word of data. A dash stands for no data.
+fn data_fault(word: &[u8]) -> Fault
+    ensures { λ r. ⌜ r ≡ dataFault (now (word .entry)) ⌝ }
+{
+    if is_dash(word) {
+        return Fault::Sound;
+    }
+    if until(word, 0, Stop::NotHex) < word.len() {
+        return Fault::NotHexadecimal;
+    }
+    if word.len() % 2 == 1 {
+        return Fault::OddDigits;
+    }
+    Fault::Sound
+}
+
+fn is_dash(word: &[u8]) -> bool
+    ensures { λ r. ⌜ r ≡ isDash (now (word .entry)) ⌝ }
+{
+    if word.len() != 1 {
+        return false;
+    }
+    word[0] == b'-'
 }

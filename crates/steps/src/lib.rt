@@ -1,28 +1,12 @@
 // Steps in readable form, one a line: what a line says, and the frame that it stands for.
 use state::Refusal;
 
-mod data;
 mod fields;
 mod frame;
 mod line;
-mod scan;
 
 pub use frame::frame_of;
 pub use line::parse;
-pub use scan::has_word;
-pub use scan::until;
-
-// Where a scan of a text stops: at a byte of this class.
-pub enum Stop {
-    LineEnd,
-    Comment,
-    Equals,
-    // a byte that is no blank, with which a word begins
-    Word,
-    Blank,
-    NotDecimal,
-    NotHex,
-}
 
 // What is wrong with a field or a line.
 pub enum Fault {

@@ -3,14 +3,14 @@
 use crate::Fault;
 use crate::Meaning;
 use crate::Step;
-use crate::Stop;
 use crate::fields::data_field;
 use crate::fields::end_fault;
 use crate::fields::number_field;
-use crate::scan::has_word;
-use crate::scan::starts;
-use crate::scan::until;
 use frames::tables;
+use scan::Stop;
+use scan::has_word;
+use scan::starts;
+use scan::until;
 ghost use mathlib.Core.Path.{_≡_};
 ghost use Prim.Native.Nat.{_≤_};
 ghost use lib.ListN.{length, take};

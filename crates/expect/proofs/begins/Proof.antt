@@ -8,9 +8,9 @@ use mathlib.Core.Bool.{true, false}
 use denote.Ref.{now}
 use lib.ListN.{length, drop, getD}
 use borrow.Author.Tests.{ltb-true, ltb-false, not-true, not-false}
-use Rattle.steps.specs.Scan.{front}
+use Rattle.scan.specs.Scan.{front}
 use Rattle.expect.specs.Expect.{wordsOf, same}
-use Rattle.steps.proofs.Fronts.{alike, unlike, short, whole}
+use Rattle.scan.proofs.Fronts.{alike, unlike, short, whole}
 use Rattle.expect.proofs.Words.{words-most}
 use borrow.Author.Needs.{needs}
 use Rattle.expect.proofs.begins.Statement.{statement}

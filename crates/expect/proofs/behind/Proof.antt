@@ -5,9 +5,9 @@ use mathlib.Core.Path.{_≡_, refl, ap, _∙_}
 use denote.Ref.{now}
 use lib.ListN.{length, drop}
 use lib.Seq.{drop-drop}
-use Rattle.steps.specs.Scan.{wordEnd}
+use Rattle.scan.specs.Scan.{wordEnd}
 use Rattle.expect.specs.Expect.{wordsOf}
-use Rattle.steps.proofs.Places.{word-end-most}
+use Rattle.scan.proofs.Scanning.{word-end-most}
 use Rattle.expect.proofs.Words.{others-behind}
 use borrow.Author.Needs.{needs}
 use Rattle.expect.proofs.behind.Statement.{statement}

@@ -6,7 +6,7 @@ use denote.Ref.{now}
 use lib.ListN.{length, take}
 use lib.Seq.{length-take-le}
 use Rattle.expect.specs.Expect.{expected}
-use Rattle.steps.proofs.Scanning.{front-most}
+use Rattle.scan.proofs.Scanning.{front-most}
 use borrow.Author.Needs.{needs}
 use Rattle.expect.proofs.expected.Statement.{statement}
 use Rattle.expect.proofs.expected.Tie as tie

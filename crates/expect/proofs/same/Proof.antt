@@ -8,9 +8,9 @@ use denote.Ref.{now}
 use lib.Dec.{eqb}
 use lib.ListN.{length, drop, getD}
 use borrow.Author.Tests.{eq-eqb, ne-eqb}
-use Rattle.steps.specs.Scan.{front}
+use Rattle.scan.specs.Scan.{front}
 use Rattle.expect.specs.Expect.{lower, same}
-use Rattle.steps.proofs.Fronts.{alike, unlike, whole}
+use Rattle.scan.proofs.Fronts.{alike, unlike, whole}
 use borrow.Author.Needs.{needs}
 use Rattle.expect.proofs.same.Statement.{statement}
 use Rattle.expect.proofs.same.Tie as tie

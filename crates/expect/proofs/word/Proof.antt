@@ -6,9 +6,9 @@ use mathlib.Core.List.{[]}
 use denote.Ref.{now}
 use lib.ListN.{drop, getD}
 use lib.Seq.{getD-drop}
-use Rattle.steps.specs.Scan.{wordEnd}
+use Rattle.scan.specs.Scan.{wordEnd}
 use Rattle.expect.specs.Expect.{wordsOf}
-use Rattle.steps.proofs.Places.{word-end-most}
+use Rattle.scan.proofs.Scanning.{word-end-most}
 use Rattle.expect.proofs.Words.{first-here}
 use borrow.Author.Needs.{needs}
 use Rattle.expect.proofs.word.Statement.{statement}

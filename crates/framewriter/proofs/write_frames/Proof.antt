@@ -5,8 +5,8 @@ use mathlib.Core.Path.{_≡_, refl}
 use lib.ListN.{length}
 use denote.Ref.{now}
 use borrow.Author.Needs.{needs}
-use Rattle.steps.specs.declared.Stop.the-variants.{LineEnd}
-use Rattle.steps.proofs.Scanning.{place-most}
+use Rattle.scan.specs.declared.Stop.the-variants.{LineEnd}
+use Rattle.scan.proofs.Scanning.{place-most}
 use Rattle.framewriter.proofs.write_frames.Statement.{statement}
 use Rattle.framewriter.proofs.write_frames.Tie as tie
 

@@ -7,9 +7,9 @@ use mathlib.Core.List.{List}
 use lib.ListN.{length}
 use denote.Ref.{now}
 use borrow.Author.Needs.{needs}
-use Rattle.steps.specs.declared.Stop.the-variants.{LineEnd}
-use Rattle.steps.specs.Scan.{place}
-use Rattle.steps.proofs.Scanning.{place-most}
+use Rattle.scan.specs.declared.Stop.the-variants.{LineEnd}
+use Rattle.scan.specs.Scan.{place}
+use Rattle.scan.proofs.Scanning.{place-most}
 use Rattle.script.proofs.judging.judge_lines.Statement.{statement}
 use Rattle.script.proofs.judging.judge_lines.Tie as tie
 

@@ -3,8 +3,8 @@ use native.Mathlib.Omega.{arith}
 use denote.Ref.{now}
 use borrow.Author.Tests.{not-true, not-false}
 use Rattle.steps.specs.Fields.{dataField, dataBytes}
-use Rattle.steps.proofs.Bytes.{nothing-put}
-use Rattle.steps.proofs.Places.{word-end-most}
+use Rattle.scan.proofs.Bytes.{nothing-put}
+use Rattle.scan.proofs.Scanning.{word-end-most}
 use borrow.Author.Needs.{needs}
 use Rattle.steps.proofs.fields.data_field.Statement.{statement}
 use Rattle.steps.proofs.fields.data_field.Tie as tie

@@ -4,7 +4,8 @@ use mathlib.Core.Path.{_≡_}
 use denote.Ref.{now}
 use borrow.Author.Tests.{not-true, not-false}
 use Rattle.steps.specs.Fields.{numberField}
-use Rattle.steps.proofs.Places.{word-end-most, field-next-most}
+use Rattle.scan.proofs.Scanning.{word-end-most}
+use Rattle.steps.proofs.Places.{field-next-most}
 use borrow.Author.Needs.{needs}
 use Rattle.steps.proofs.fields.number_field.Statement.{statement}
 use Rattle.steps.proofs.fields.number_field.Tie as tie

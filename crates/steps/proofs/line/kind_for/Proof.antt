@@ -8,9 +8,9 @@ use lib.Dec.{eqb}
 use lib.ListN.{drop}
 use borrow.Author.Tests.{eq-eqb, ne-eqb}
 use Rattle.frames.specs.Kinds.{Kind, row, kinds, kindOf}
-use Rattle.steps.specs.Scan.{before}
+use Rattle.scan.specs.Scan.{before}
 use Rattle.steps.specs.Line.{kindFor}
-use Rattle.steps.proofs.Scanning.{found, passed, behind}
+use Rattle.scan.proofs.Scanning.{found, passed, behind}
 use borrow.Author.Needs.{needs}
 use Rattle.steps.proofs.line.kind_for.Statement.{statement}
 use Rattle.steps.proofs.line.kind_for.Tie as tie

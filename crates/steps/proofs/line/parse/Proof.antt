@@ -3,8 +3,8 @@ use mathlib.Core.Path.{sym}
 use denote.Ref.{now}
 use lib.Seq.{length-take-le}
 use Rattle.steps.specs.Line.{lineMeans, lineData}
-use Rattle.steps.proofs.Scanning.{front-most}
-use Rattle.steps.proofs.Bytes.{nothing-put}
+use Rattle.scan.proofs.Scanning.{front-most}
+use Rattle.scan.proofs.Bytes.{nothing-put}
 use borrow.Author.Needs.{needs}
 use Rattle.steps.proofs.line.parse.Statement.{statement}
 use Rattle.steps.proofs.line.parse.Tie as tie

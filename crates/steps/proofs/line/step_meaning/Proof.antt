@@ -6,10 +6,10 @@ use denote.Ref.{now}
 use lib.ListN.{length}
 use borrow.Author.Tests.{lt-ltb, le-ltb}
 use Rattle.frames.specs.Kinds.{isKind}
-use Rattle.steps.specs.Scan.{wordEnd, hasWord}
+use Rattle.scan.specs.Scan.{wordEnd, hasWord}
 use Rattle.steps.specs.Line.{stepKind, stepMeans, stepData}
-use Rattle.steps.proofs.Places.{word-end-most}
-use Rattle.steps.proofs.Bytes.{nothing-put}
+use Rattle.scan.proofs.Scanning.{word-end-most}
+use Rattle.scan.proofs.Bytes.{nothing-put}
 use borrow.Author.Needs.{needs}
 use Rattle.steps.proofs.line.step_meaning.Statement.{statement}
 use Rattle.steps.proofs.line.step_meaning.Tie as tie

@@ -7,7 +7,7 @@ use lib.ListN.{length}
 use lib.Seq.{length-take-le}
 use borrow.Author.Tests.{lt-ltb, le-ltb}
 use Rattle.steps.specs.Line.{cutOf, textMeans}
-use Rattle.steps.proofs.Scanning.{front-most}
+use Rattle.scan.proofs.Scanning.{front-most}
 use borrow.Author.Needs.{needs}
 use Rattle.steps.proofs.line.text_meaning.Statement.{statement}
 use Rattle.steps.proofs.line.text_meaning.Tie as tie

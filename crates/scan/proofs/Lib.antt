@@ -1,0 +1,4 @@
+pub mod Scanning
+pub mod Fronts
+pub mod Numbers
+pub mod Bytes
