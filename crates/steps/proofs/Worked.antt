@@ -22,14 +22,16 @@ step kind command address size given = StepMeant (record { kind = kind; command 
 steps :
     map (λ s. lineMeans (ascii s)) ("B 1" ∷ "H 256 61626364" ∷ "F 1 256 4" ∷ " W\t1 16 0102 # x" ∷ "E 1" ∷ "H 5" ∷ "H 5 -" ∷ "B 99999999" ∷ [])
     ≡ step 0 1 0 0 0 ∷ step 3 0 256 4 4 ∷ step 1 1 256 4 0 ∷ step 4 1 16 2 2 ∷ step 2 1 0 0 0 ∷ step 3 0 5 0 0 ∷ step 3 0 5 0 0 ∷ step 0 1000000 0 0 0 ∷ []
-unfolding before front hexValue readOn numberOf numberField bytesOf dataFault dataField endFault kindFor kindNamed hasSize sizeOf firstFault judged fieldsMean stepMeans textMeans isMarked lineMeans
+unfolding before front hexValue readOn numberOf numberField bytesOf dataFault dataField endFault kindFor kindNamed hasSize sizeOf firstFault judged
+    fieldsMean stepMeans textMeans isMarked lineMeans
 steps = refl
 
 -- an expectation changes nothing of a step
 expecting :
     map (λ s. lineMeans (ascii s)) ("B 1 = ok" ∷ "H 5 00=ok 1 # x" ∷ "F 1 2 3 = = 4" ∷ "B 1 # = ok" ∷ [])
     ≡ step 0 1 0 0 0 ∷ step 3 0 5 1 1 ∷ step 1 1 2 3 0 ∷ step 0 1 0 0 0 ∷ []
-unfolding before front hexValue readOn numberOf numberField bytesOf dataFault dataField endFault kindFor kindNamed hasSize sizeOf firstFault judged fieldsMean stepMeans textMeans isMarked lineMeans
+unfolding before front hexValue readOn numberOf numberField bytesOf dataFault dataField endFault kindFor kindNamed hasSize sizeOf firstFault judged
+    fieldsMean stepMeans textMeans isMarked lineMeans
 expecting = refl
 
 bytes :
@@ -55,7 +57,8 @@ faults :
     × Faulty FieldTooMany ("B 1 2" ∷ "B 1 zz" ∷ "B 1 -" ∷ "F 1 2 3 00" ∷ "H 1 00 -" ∷ "B 1 2 = ok" ∷ [])
     × Faulty NothingExpected ("B 1 =" ∷ "B 1 = # ok" ∷ [])
     × Faulty NoStep ("= 04" ∷ " =" ∷ [])
-unfolding before front hexValue readOn numberOf numberField bytesOf dataFault dataField endFault kindFor kindNamed hasSize sizeOf firstFault judged fieldsMean stepMeans textMeans isMarked lineMeans
+unfolding before front hexValue readOn numberOf numberField bytesOf dataFault dataField endFault kindFor kindNamed hasSize sizeOf firstFault judged
+    fieldsMean stepMeans textMeans isMarked lineMeans
 faults = (refl, refl, refl, refl, refl, refl, refl, refl)
 
 marked :

@@ -23,20 +23,23 @@ unfolding digits
 digits-large steps n h = rw (le-ltb n 10 h, digits)
 
 -- What holds of a number with one digit, and of one with more if it holds of its tenth, holds of every number.
-module _ (P : ℕ → List ℕ → Type 0) (small : (n : ℕ) → n < 10 → P n (digit n ∷ [])) (large : (n : ℕ) (ds : List ℕ) → 10 ≤ n → P (n / 10) ds → P n (ds ++ digit (n % 10) ∷ [])) where
-  by-steps : (steps n : ℕ) → n < steps → P n (digits steps n)
-  by-steps zero n h = absurd (not-suc-le-zero h)
-  by-steps (suc steps) n h = go (by-steps steps) (ltb n 10) refl
-    where
-      go : ((k : ℕ) → k < steps → P k (digits steps k)) → (t : Bool) → ltb n 10 ≡ t → P n (digits (suc steps) n)
-      go tenth true e = rw (digits-small steps n (ltb-true n 10 e)) (small n (ltb-true n 10 e))
-      go tenth false e =
-          let more = ltb-false n 10 e in
-          rw (digits-large steps n more) (large n (digits steps (n / 10)) more (tenth (n / 10) (omega arith)))
+module _
+    (P : ℕ → List ℕ → Type 0) (small : (n : ℕ) → n < 10 → P n (digit n ∷ []))
+    (large : (n : ℕ) (ds : List ℕ) → 10 ≤ n → P (n / 10) ds → P n (ds ++ digit (n % 10) ∷ []))
+  where
+    by-steps : (steps n : ℕ) → n < steps → P n (digits steps n)
+    by-steps zero n h = absurd (not-suc-le-zero h)
+    by-steps (suc steps) n h = go (by-steps steps) (ltb n 10) refl
+      where
+        go : ((k : ℕ) → k < steps → P k (digits steps k)) → (t : Bool) → ltb n 10 ≡ t → P n (digits (suc steps) n)
+        go tenth true e = rw (digits-small steps n (ltb-true n 10 e)) (small n (ltb-true n 10 e))
+        go tenth false e =
+            let more = ltb-false n 10 e in
+            rw (digits-large steps n more) (large n (digits steps (n / 10)) more (tenth (n / 10) (omega arith)))
 
-  by-digits : (n : ℕ) → P n (decimal n)
-  unfolding decimal
-  by-digits n = by-steps (suc n) n (omega arith)
+    by-digits : (n : ℕ) → P n (decimal n)
+    unfolding decimal
+    by-digits n = by-steps (suc n) n (omega arith)
 
 -- the count of steps does not matter, if there are enough
 enough : (n steps : ℕ) → n < steps → digits steps n ≡ decimal n

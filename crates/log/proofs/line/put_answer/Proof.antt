@@ -74,13 +74,16 @@ module _ (letter : ℕ) (delivered : List ℕ) where
 
 returns : tie.Need-returns
 returns c =
-    let word = c .before .before .before .before .before .before .before .before in
-    let args = word .before .before .before .before .before .before .before .before .args in
-    let given = word .before .before .before .before .answer .given in
-    let value : c .before .before .before .wide .result ≡ number (given .0 .0) = cc in
+    let valued = c .before .before .before in
+    let word = valued .before .before .before .before .before in
+    let told = word .before .before .before .before in
+    let given = told .answer .given in
+    let args = told .before .before .before .before .args in
+    let delivered = now (args .delivered) in
+    let value : valued .wide .result ≡ number (given .0 .0) = cc in
     let no-word : Puts (now (args .out)) (args .at) (ascii " no") (word .put-word .result) (word .put-word .last .0) = word .put-word .ensures in
     puts-is (puts-both no-word (c .before .before .put-number .ensures))
-    (refusal (args .letter) (now (args .delivered)) (given .0 .0) (c .before .before .before .wide .result) value ∙ ap (text (args .letter) (now (args .delivered))) (sym (given .1)))
+    (refusal (args .letter) delivered (given .0 .0) (valued .wide .result) value ∙ ap (text (args .letter) delivered) (sym (given .1)))
 
 slice-aggregate-put-word-2 : tie.Need-slice-aggregate-put-word-2
 slice-aggregate-put-word-2 c = search needs
@@ -99,12 +102,13 @@ same-length-2 c = search needs
 
 returns-2 : tie.Need-returns-2
 returns-2 c =
-    let numbers = c .before .before .before .before .before .before in
+    let last = c .before .before in
+    let numbers = last .before .before .before .before in
     let word = numbers .before .before .before .before in
     let other = word .before .before .before in
     let args = other .before .before .before .args in
     let ok-word : Puts (now (args .out)) (args .at) (ascii " ok") (word .put-word2 .result) (word .put-word2 .last .0) = word .put-word2 .ensures in
-    puts-is (puts-both ok-word (puts-both (numbers .put-numbers .ensures) (c .before .before .put-delivered .ensures)))
+    puts-is (puts-both ok-word (puts-both (numbers .put-numbers .ensures) (last .put-delivered .ensures)))
     (reply (args .letter) (now (args .delivered)) (args .answer) (other .match .keys2))
 
 pub put-answer-spec : {M : Type 1} → statement M

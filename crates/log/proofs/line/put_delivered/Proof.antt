@@ -76,10 +76,12 @@ same-length-3 c = search needs
 
 returns-3 : tie.Need-returns-3
 returns-3 c =
-    let blank = c .before .before .before .before .before .before in
+    let last = c .before .before in
+    let blank = last .before .before .before .before in
     let else = blank .before .before in
     let args = else .before .before .before .before .args in
-    puts-is (puts-both (blank .put-byte .ensures) (c .before .before .put-hex .ensures)) (something (args .letter) (now (args .delivered)) (else .before .if1 .left) (else .if2 .left))
+    puts-is (puts-both (blank .put-byte .ensures) (last .put-hex .ensures))
+    (something (args .letter) (now (args .delivered)) (else .before .if1 .left) (else .if2 .left))
 
 pub put-delivered-spec : {M : Type 1} → statement M
 put-delivered-spec =

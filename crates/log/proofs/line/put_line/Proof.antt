@@ -26,12 +26,13 @@ same-length c = search needs
 returns : tie.Need-returns
 unfolding lineOf spaced
 returns c =
-    let answered = c .before .before .before .before .before .before in
+    let ended = c .before .before in
+    let answered = ended .before .before .before .before in
     let lettered = answered .before .before .before .before in
     let blank = lettered .before .before .before .before in
     let numbered = blank .before .before .before .before in
-    puts-both (puts-both (numbered .put-decimal .ensures) (puts-both (blank .put-byte .ensures) (puts-both (lettered .put-byte2 .ensures) (answered .put-answer .ensures))))
-    (c .before .before .put-byte3 .ensures)
+    let letter-on = puts-both (lettered .put-byte2 .ensures) (answered .put-answer .ensures) in
+    puts-both (puts-both (numbered .put-decimal .ensures) (puts-both (blank .put-byte .ensures) letter-on)) (ended .put-byte3 .ensures)
 
 pub put-line-spec : {M : Type 1} → statement M
 put-line-spec =

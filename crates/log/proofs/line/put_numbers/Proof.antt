@@ -69,12 +69,15 @@ same-length-2 c = search needs
 
 returns-2 : tie.Need-returns-2
 returns-2 c =
-    let first = c .before .before .before .before .before .before in
-    let given = first .before .before .before .answer2 .given in
-    let args = first .before .before .before .before .before .before .args in
+    let last = c .before .before in
+    let first = last .before .before .before .before in
+    let told = first .before .before .before in
+    let given = told .answer2 .given in
+    let args = told .before .before .before .args in
     let m = given .0 .0 in
-    let put-m : Puts (now (args .out)) (args .at) (ascii " " ++ decimal m) (first .put-number2 .result) (first .put-number2 .last .0) = first .put-number2 .ensures in
-    puts-is (puts-both put-m (c .before .before .put-number3 .ensures)) (two m (given .0 .1 .0) ∙ ap text (sym (given .1)))
+    let put-m : Puts (now (args .out)) (args .at) (ascii " " ++ decimal m) (first .put-number2 .result) (first .put-number2 .last .0) =
+    first .put-number2 .ensures in
+    puts-is (puts-both put-m (last .put-number3 .ensures)) (two m (given .0 .1 .0) ∙ ap text (sym (given .1)))
 
 same-length-3 : tie.Need-same-length-3
 same-length-3 c = search needs

@@ -14,7 +14,7 @@ same-length : tie.Need-same-length
 same-length c = search needs
 
 returns : tie.Need-returns
-returns c = puts-both (c .before .before .before .before .before .before .put-byte .ensures) (c .before .before .put .ensures)
+returns c = let last = c .before .before in puts-both (last .before .before .before .before .put-byte .ensures) (last .put .ensures)
 
 pub put-word-spec : {M : Type 1} → statement M
 put-word-spec = tie.close (tie.spec put-byte-requires put-requires same-length returns)

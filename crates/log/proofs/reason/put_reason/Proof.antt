@@ -10,7 +10,9 @@ use lib.Seq.{length-take-le}
 use borrow.Author.Needs.{needs}
 use Rattle.octets.specs.Text.{ascii}
 use Rattle.state.specs.declared.refusal.Refusal.{Refusal}
-use Rattle.state.specs.declared.refusal.Refusal.the-variants.{FrameTooShort, UnknownKind, FieldNotZero, LengthTooLong, DataMismatch, CommandTooHigh, WindowTooLong, StoreWrongSize, OutsideWindow, BufferTooShort, AddressTooHigh, StateBroken, CommandNotOpen, CommandAlreadyOpen, TooManyBytes, TooManyRecords, NoSuchRecord}
+use Rattle.state.specs.declared.refusal.Refusal.the-variants.{FrameTooShort, UnknownKind, FieldNotZero, LengthTooLong, DataMismatch}
+use Rattle.state.specs.declared.refusal.Refusal.the-variants.{CommandTooHigh, WindowTooLong, StoreWrongSize, OutsideWindow, BufferTooShort, AddressTooHigh}
+use Rattle.state.specs.declared.refusal.Refusal.the-variants.{StateBroken, CommandNotOpen, CommandAlreadyOpen, TooManyBytes, TooManyRecords, NoSuchRecord}
 use Rattle.state.specs.Refusals.{reason, padded}
 use Rattle.log.specs.Reason.{filled}
 use Rattle.text.proofs.Putting.{puts-is}

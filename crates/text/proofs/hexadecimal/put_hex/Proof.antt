@@ -84,25 +84,52 @@ module _ (out bytes : List ℕ) (at whole : ℕ) (inside : at < length out) (is 
   all-put h p = puts-is p (ap hexadecimal (take-all whole bytes h))
 
   -- the next one is put as far as it fits, and fills the buffer
-  one-cut : {k r : ℕ} {out′ out″ : List ℕ} → whole < length bytes → Puts out at pairs k out′ → Puts out′ k (hexPair (getD bytes whole 0)) r out″ → Puts out at (hexadecimal bytes) r out″
+  one-cut :
+      {k r : ℕ} {out′ out″ : List ℕ} → whole < length bytes → Puts out at pairs k out′ → Puts out′ k (hexPair (getD bytes whole 0)) r out″
+      → Puts out at (hexadecimal bytes) r out″
   one-cut h p q =
       let more : pairs ++ hexPair (getD bytes whole 0) ≡ hexadecimal (take (suc whole) bytes) = sym (hex-more bytes whole h) in
-      let size : length (hexadecimal (take (suc whole) bytes)) ≡ 2 * suc whole = length-hex (take (suc whole) bytes) ∙ ap (λ (n : ℕ). 2 * n) (length-take-le (suc whole) bytes h) in
+      let size : length (hexadecimal (take (suc whole) bytes)) ≡ 2 * suc whole =
+      length-hex (take (suc whole) bytes) ∙ ap (λ (n : ℕ). 2 * n) (length-take-le (suc whole) bytes h) in
       puts-is (puts-cut (puts-is (puts-both p q) more) (hexadecimal (drop (suc whole) bytes)) (omega arith))
       (sym (hex-append (take (suc whole) bytes) (drop (suc whole) bytes)) ∙ ap hexadecimal (take-append-drop (suc whole) bytes))
+
+-- what is known once the pairs are put
+module _ (lent : tie.After-put-pairs) where
+  abbrev found : tie.After-lesser
+  found = lent .before .before .before .before
+
+  abbrev start : tie.Start
+  start = found .before .before .before .before .before
+
+  abbrev out-given : List ℕ
+  out-given = now (start .args .out)
+
+  abbrev bytes-given : List ℕ
+  bytes-given = now (start .args .bytes)
+
+  abbrev whole-found : ℕ
+  whole-found = found .lesser .result
+
+  inside-out : start .args .at < length out-given
+  inside-out = omega arith
+
+  abbrev out-left : List ℕ
+  out-left = back out-given bytes-given (start .args .at) whole-found inside-out (found .lesser .ensures) (lent .put-pairs .last .0)
+
+  pairs-put : Puts out-given (start .args .at) (hexadecimal (take whole-found bytes-given)) (start .args .at + 2 * whole-found) out-left
+  pairs-put =
+      paired out-given bytes-given (start .args .at) whole-found inside-out (found .lesser .ensures) (lent .put-pairs .last .0)
+      (lent .put-pairs .ensures)
 
 returns-2 : tie.Need-returns-2
 returns-2 c =
     let put = c .before .before in
     let lent = put .before .before .before .before .before .before .before in
-    let lesser = lent .before .before .before .before in
-    let e = lesser .before .before .before .before .before in
-    let out = now (e .args .out) in
-    let bytes = now (e .args .bytes) in
-    let at = e .args .at in
-    let whole = lesser .lesser .result in
-    let inside : at < length out = omega arith in
-    one-cut out bytes at whole inside (lesser .lesser .ensures) (omega arith) (paired out bytes at whole inside (lesser .lesser .ensures) (lent .put-pairs .last .0) (lent .put-pairs .ensures)) (put .put-pair .ensures)
+    one-cut (out-given lent) (bytes-given lent) (start lent .args .at) (whole-found lent) (inside-out lent) (found lent .lesser .ensures)
+    (omega arith)
+    (pairs-put lent)
+    (put .put-pair .ensures)
 
 same-length-2 : tie.Need-same-length-2
 same-length-2 c = search needs
@@ -110,14 +137,9 @@ same-length-2 c = search needs
 returns-3 : tie.Need-returns-3
 returns-3 c =
     let lent = c .before .before .before in
-    let lesser = lent .before .before .before .before in
-    let e = lesser .before .before .before .before .before in
-    let out = now (e .args .out) in
-    let bytes = now (e .args .bytes) in
-    let at = e .args .at in
-    let whole = lesser .lesser .result in
-    let inside : at < length out = omega arith in
-    all-put out bytes at whole inside (lesser .lesser .ensures) (omega arith) (paired out bytes at whole inside (lesser .lesser .ensures) (lent .put-pairs .last .0) (lent .put-pairs .ensures))
+    all-put (out-given lent) (bytes-given lent) (start lent .args .at) (whole-found lent) (inside-out lent) (found lent .lesser .ensures)
+    (omega arith)
+    (pairs-put lent)
 
 pub put-hex-spec : {M : Type 1} → statement M
 put-hex-spec =

@@ -41,7 +41,9 @@ returns c =
     let wide = first .before .before .before .wide in
     let start = first .before .before .before .before .before in
     let table = now (start .args .table) in
-    let high : Puts (now (start .args .out)) (start .args .at) (getD table (2 * wide .result) 0 ∷ []) (first .put-byte .result) (first .put-byte .last .0) = first .put-byte .ensures in
+    let out = now (start .args .out) in
+    let high : Puts out (start .args .at) (getD table (2 * wide .result) 0 ∷ []) (first .put-byte .result) (first .put-byte .last .0) =
+    first .put-byte .ensures in
     puts-is (puts-both high (c .before .before .put-byte2 .ensures))
     (table-pair table (wide .result) (start .args .byte) (start .pre) (wide .ensures .0) (omega arith))
 

@@ -71,10 +71,11 @@ loop-again c =
     let bytes = now (e .args .bytes) in
     let i = at-loop .loop .i in
     let x = getD table (2 * wide .result) 0 in
-    let y = getD table (2 * wide .result + 1) 0 in (
+    let y = getD table (2 * wide .result + 1) 0 in
+    let pair = table-pair table (wide .result) (getD bytes i 0) (e .pre .0) (wide .ensures .0) (wide .ensures .1) in (
       omega arith,
       ap (λ (o : List ℕ). set (set o (2 * i) x) (2 * i + 1) y) (at-loop .loop .inv .1)
-          ∙ pair-stored (now (e .args .out)) bytes i x y (omega arith) (e .pre .1) (table-pair table (wide .result) (getD bytes i 0) (e .pre .0) (wide .ensures .0) (wide .ensures .1)),
+          ∙ pair-stored (now (e .args .out)) bytes i x y (omega arith) (e .pre .1) pair,
       simp length-set (omega arith),
     )
 
