@@ -9,10 +9,10 @@ use Rattle.state.specs.Verdict.{accepted}
 use Rattle.cache.specs.Begin.{beginSays, beginState, beginStore}
 use Rattle.cache.specs.Fetch.{fetchSays, fetchState, fetchStore, fetchDest}
 use Rattle.cache.specs.End.{endSays, endState, endStore}
-use Rattle.doorclover.specs.declared.calls.Begun.{Begun}
-use Rattle.doorclover.specs.declared.calls.Ended.{Ended}
-use Rattle.doorclover.specs.declared.calls.Fetched.{Fetched}
-use Rattle.doorclover.specs.Replies.{begunOf, endedOf, fetchedOf}
+use Rattle.replies.specs.declared.calls.Begun.{Begun}
+use Rattle.replies.specs.declared.calls.Ended.{Ended}
+use Rattle.replies.specs.declared.calls.Fetched.{Fetched}
+use Rattle.replies.specs.Replies.{begunOf, endedOf, fetchedOf}
 
 pub record Begins (words store : List ℕ) (c : ℕ) (r : Begun) (words′ store′ : List ℕ) : Type 0 where
   pub answer : r ≡ begunOf (beginSays (stateOf words) (length store) c)

@@ -3,132 +3,22 @@ ghost use mathlib.Core.Path.{_≡_};
 ghost use lib.ListN.{length};
 ghost use Rattle.state.specs.State.{freshState};
 ghost use Rattle.state.specs.Words.{stateOf};
-ghost use Rattle.cache.specs.Begin.{beginReply};
-ghost use Rattle.cache.specs.End.{endReply};
-ghost use Rattle.cache.specs.HostWrite.{hostSays, hostWindow, writeReply};
+ghost use Rattle.cache.specs.HostWrite.{hostSays, hostWindow};
 ghost use Rattle.cache.specs.OwnWrite.{ownSays, ownWindow};
-ghost use Rattle.cache.specs.Show.{showSays, showReply};
-ghost use Rattle.fetch.specs.Fetch.{fetchReply};
-ghost use Rattle.doorclover.specs.Replies.{begunOf, endedOf, fetchedOf, writtenOf, shownOf};
+ghost use Rattle.cache.specs.Show.{showSays};
+ghost use Rattle.replies.specs.Replies.{writtenOf, shownOf};
 ghost use Rattle.doorclover.specs.Calls.{Begins, Ends, Fetches};
-use crate::status::OK;
-use crate::status::status;
-use cache::begin::BeginAnswer;
-use cache::end::EndAnswer;
-use cache::host_write::WriteAnswer;
-use cache::show::ShowAnswer;
-use fetch::FetchAnswer;
+use replies::Begun;
+use replies::Ended;
+use replies::Fetched;
+use replies::Shown;
+use replies::Written;
+use replies::begin_reply;
+use replies::end_reply;
+use replies::fetch_reply;
+use replies::show_reply;
+use replies::write_reply;
 use state::CacheState;
-
-#[repr(C)]
-pub struct Begun {
-    pub status: u32,
-}
-
-// How many records and distinct bytes the command had.
-#[repr(C)]
-pub struct Ended {
-    pub status: u32,
-    pub records: usize,
-    pub bytes: usize,
-}
-
-// How many bytes of the span were fresh, and how many were replayed.
-#[repr(C)]
-pub struct Fetched {
-    pub status: u32,
-    pub fresh: usize,
-    pub replayed: usize,
-}
-
-// How many bytes were written.
-#[repr(C)]
-pub struct Written {
-    pub status: u32,
-    pub bytes: usize,
-}
-
-// A record.
-#[repr(C)]
-pub struct Shown {
-    pub status: u32,
-    pub start: u16,
-    pub len: u16,
-}
-
-fn begin_reply(answer: BeginAnswer) -> Begun
-    ensures { λ r. ⌜ r ≡ begunOf (beginReply answer) ⌝ }
-{
-    match answer {
-        BeginAnswer::Refused(why) => Begun {
-            status: status(why),
-        },
-        BeginAnswer::Done => Begun { status: OK },
-    }
-}
-
-fn end_reply(answer: EndAnswer) -> Ended
-    ensures { λ r. ⌜ r ≡ endedOf (endReply answer) ⌝ }
-{
-    match answer {
-        EndAnswer::Refused(why) => Ended {
-            status: status(why),
-            records: 0,
-            bytes: 0,
-        },
-        EndAnswer::Done { records, bytes } => Ended {
-            status: OK,
-            records,
-            bytes,
-        },
-    }
-}
-
-fn fetch_reply(answer: FetchAnswer) -> Fetched
-    ensures { λ r. ⌜ r ≡ fetchedOf (fetchReply answer) ⌝ }
-{
-    match answer {
-        FetchAnswer::Refused(why) => Fetched {
-            status: status(why),
-            fresh: 0,
-            replayed: 0,
-        },
-        FetchAnswer::Done { fresh, replayed } => Fetched {
-            status: OK,
-            fresh,
-            replayed,
-        },
-    }
-}
-
-fn write_reply(answer: WriteAnswer) -> Written
-    ensures { λ r. ⌜ r ≡ writtenOf (writeReply answer) ⌝ }
-{
-    match answer {
-        WriteAnswer::Refused(why) => Written {
-            status: status(why),
-            bytes: 0,
-        },
-        WriteAnswer::Done(bytes) => Written { status: OK, bytes },
-    }
-}
-
-fn show_reply(answer: ShowAnswer) -> Shown
-    ensures { λ r. ⌜ r ≡ shownOf (showReply answer) ⌝ }
-{
-    match answer {
-        ShowAnswer::Refused(why) => Shown {
-            status: status(why),
-            start: 0,
-            len: 0,
-        },
-        ShowAnswer::Record { start, len } => Shown {
-            status: OK,
-            start,
-            len,
-        },
-    }
-}
 
 // Makes the fresh state.
 #[no_mangle]

@@ -1,7 +1,7 @@
 -- The call's own equation, with its answer as a reply.
 use mathlib.Core.Path.{ap, _∙_}
 use borrow.Author.Needs.{needs}
-use Rattle.doorclover.specs.Replies.{fetchedOf}
+use Rattle.replies.specs.Replies.{fetchedOf}
 use Rattle.doorclover.proofs.calls.doorclover_fetch.Statement.{statement}
 use Rattle.doorclover.proofs.calls.doorclover_fetch.Tie as tie
 

@@ -1,7 +1,7 @@
 -- The call's own equation, with its answer as a reply. State and store are not written.
 use mathlib.Core.Path.{refl, ap, _∙_}
 use borrow.Author.Needs.{needs}
-use Rattle.doorclover.specs.Replies.{writtenOf}
+use Rattle.replies.specs.Replies.{writtenOf}
 use Rattle.doorclover.proofs.calls.doorclover_own_write.Statement.{statement}
 use Rattle.doorclover.proofs.calls.doorclover_own_write.Tie as tie
 

@@ -1,7 +1,7 @@
 -- The writer's own equation, with its answer as a reply.
 use mathlib.Core.Path.{ap, _∙_}
 use borrow.Author.Needs.{needs}
-use Rattle.doorclover.specs.Replies.{framedOf}
+use Rattle.replies.specs.Replies.{framedOf}
 use Rattle.doorclover.proofs.frame.doorclover_frame_write.Statement.{statement}
 use Rattle.doorclover.proofs.frame.doorclover_frame_write.Tie as tie
 

@@ -5,9 +5,9 @@ use borrow.Author.Needs.{needs}
 use Rattle.state.specs.Verdict.{refused}
 use Rattle.cache.specs.declared.host_write.WriteAnswer.{WriteAnswer}
 use Rattle.cache.specs.HostWrite.{writeReply}
-use Rattle.doorclover.specs.Replies.{writtenOf}
-use Rattle.doorclover.proofs.calls.write_reply.Statement.{statement}
-use Rattle.doorclover.proofs.calls.write_reply.Tie as tie
+use Rattle.replies.specs.Replies.{writtenOf}
+use Rattle.replies.proofs.calls.write_reply.Statement.{statement}
+use Rattle.replies.proofs.calls.write_reply.Tie as tie
 
 returns : tie.Need-returns
 returns c = ap (λ (n : ℕ). writtenOf (refused n)) (c .status .ensures) ∙ sym (ap (λ (a : WriteAnswer). writtenOf (writeReply a)) (c .before .before .answer .given .1))

@@ -5,9 +5,9 @@ use borrow.Author.Needs.{needs}
 use Rattle.state.specs.Verdict.{refused}
 use Rattle.frames.specs.declared.WriteAnswer.{WriteAnswer}
 use Rattle.frames.specs.Write.{writeReply}
-use Rattle.doorclover.specs.Replies.{framedOf}
-use Rattle.doorclover.proofs.frame.frame_reply.Statement.{statement}
-use Rattle.doorclover.proofs.frame.frame_reply.Tie as tie
+use Rattle.replies.specs.Replies.{framedOf}
+use Rattle.replies.proofs.frame.frame_reply.Statement.{statement}
+use Rattle.replies.proofs.frame.frame_reply.Tie as tie
 
 returns : tie.Need-returns
 returns c = ap (λ (n : ℕ). framedOf (refused n)) (c .status .ensures) ∙ sym (ap (λ (a : WriteAnswer). framedOf (writeReply a)) (c .before .before .answer .given .1))

@@ -5,9 +5,9 @@ use borrow.Author.Needs.{needs}
 use Rattle.state.specs.Verdict.{replied}
 use Rattle.frames.specs.declared.Step.{Step}
 use Rattle.frames.specs.Read.{stepNumbers}
-use Rattle.doorclover.specs.Replies.{stepOf}
-use Rattle.doorclover.proofs.frame.step_reply.Statement.{statement}
-use Rattle.doorclover.proofs.frame.step_reply.Tie as tie
+use Rattle.replies.specs.Replies.{stepOf}
+use Rattle.replies.proofs.frame.step_reply.Statement.{statement}
+use Rattle.replies.proofs.frame.step_reply.Tie as tie
 
 -- the reply of a step that is known
 module _ (s : tie.Start) {step : Step} where

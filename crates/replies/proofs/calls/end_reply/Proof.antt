@@ -5,9 +5,9 @@ use borrow.Author.Needs.{needs}
 use Rattle.state.specs.Verdict.{refused}
 use Rattle.cache.specs.declared.end.EndAnswer.{EndAnswer}
 use Rattle.cache.specs.End.{endReply}
-use Rattle.doorclover.specs.Replies.{endedOf}
-use Rattle.doorclover.proofs.calls.end_reply.Statement.{statement}
-use Rattle.doorclover.proofs.calls.end_reply.Tie as tie
+use Rattle.replies.specs.Replies.{endedOf}
+use Rattle.replies.proofs.calls.end_reply.Statement.{statement}
+use Rattle.replies.proofs.calls.end_reply.Tie as tie
 
 returns : tie.Need-returns
 returns c = ap (λ (n : ℕ). endedOf (refused n)) (c .status .ensures) ∙ sym (ap (λ (a : EndAnswer). endedOf (endReply a)) (c .before .before .answer .given .1))

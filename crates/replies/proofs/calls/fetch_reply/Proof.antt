@@ -5,9 +5,9 @@ use borrow.Author.Needs.{needs}
 use Rattle.state.specs.Verdict.{refused}
 use Rattle.fetch.specs.declared.FetchAnswer.{FetchAnswer}
 use Rattle.fetch.specs.Fetch.{fetchReply}
-use Rattle.doorclover.specs.Replies.{fetchedOf}
-use Rattle.doorclover.proofs.calls.fetch_reply.Statement.{statement}
-use Rattle.doorclover.proofs.calls.fetch_reply.Tie as tie
+use Rattle.replies.specs.Replies.{fetchedOf}
+use Rattle.replies.proofs.calls.fetch_reply.Statement.{statement}
+use Rattle.replies.proofs.calls.fetch_reply.Tie as tie
 
 returns : tie.Need-returns
 returns c = ap (λ (n : ℕ). fetchedOf (refused n)) (c .status .ensures) ∙ sym (ap (λ (a : FetchAnswer). fetchedOf (fetchReply a)) (c .before .before .answer .given .1))

@@ -5,9 +5,9 @@ use borrow.Author.Needs.{needs}
 use Rattle.state.specs.Verdict.{refused}
 use Rattle.cache.specs.declared.begin.BeginAnswer.{BeginAnswer}
 use Rattle.cache.specs.Begin.{beginReply}
-use Rattle.doorclover.specs.Replies.{begunOf}
-use Rattle.doorclover.proofs.calls.begin_reply.Statement.{statement}
-use Rattle.doorclover.proofs.calls.begin_reply.Tie as tie
+use Rattle.replies.specs.Replies.{begunOf}
+use Rattle.replies.proofs.calls.begin_reply.Statement.{statement}
+use Rattle.replies.proofs.calls.begin_reply.Tie as tie
 
 returns : tie.Need-returns
 returns c = ap (λ (n : ℕ). begunOf (refused n)) (c .status .ensures) ∙ sym (ap (λ (a : BeginAnswer). begunOf (beginReply a)) (c .before .before .answer .given .1))

@@ -3,13 +3,13 @@
 use Prim.Native.Nat.{ℕ}
 use lib.ListN.{getD}
 use Rattle.state.specs.Verdict.{Reply, refused, replied, numbersOf}
-use Rattle.doorclover.specs.declared.calls.Begun.{Begun}
-use Rattle.doorclover.specs.declared.calls.Ended.{Ended}
-use Rattle.doorclover.specs.declared.calls.Fetched.{Fetched}
-use Rattle.doorclover.specs.declared.calls.Written.{Written}
-use Rattle.doorclover.specs.declared.calls.Shown.{Shown}
-use Rattle.doorclover.specs.declared.frame.FrameStep.{FrameStep}
-use Rattle.doorclover.specs.declared.frame.Framed.{Framed}
+use Rattle.replies.specs.declared.calls.Begun.{Begun}
+use Rattle.replies.specs.declared.calls.Ended.{Ended}
+use Rattle.replies.specs.declared.calls.Fetched.{Fetched}
+use Rattle.replies.specs.declared.calls.Written.{Written}
+use Rattle.replies.specs.declared.calls.Shown.{Shown}
+use Rattle.replies.specs.declared.frame.FrameStep.{FrameStep}
+use Rattle.replies.specs.declared.frame.Framed.{Framed}
 
 -- 0, or the number of the refusal
 abbrev pub statusOf : Reply → ℕ

@@ -5,9 +5,9 @@ use borrow.Author.Needs.{needs}
 use Rattle.state.specs.Verdict.{refused}
 use Rattle.cache.specs.declared.show.ShowAnswer.{ShowAnswer}
 use Rattle.cache.specs.Show.{showReply}
-use Rattle.doorclover.specs.Replies.{shownOf}
-use Rattle.doorclover.proofs.calls.show_reply.Statement.{statement}
-use Rattle.doorclover.proofs.calls.show_reply.Tie as tie
+use Rattle.replies.specs.Replies.{shownOf}
+use Rattle.replies.proofs.calls.show_reply.Statement.{statement}
+use Rattle.replies.proofs.calls.show_reply.Tie as tie
 
 returns : tie.Need-returns
 returns c = ap (λ (n : ℕ). shownOf (refused n)) (c .status .ensures) ∙ sym (ap (λ (a : ShowAnswer). shownOf (showReply a)) (c .before .before .answer .given .1))

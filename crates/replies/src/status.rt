@@ -10,13 +10,3 @@ pub(crate) fn status(why: Refusal) -> u32
 {
     why.number() as u32
 }
-
-// Which interface this is.
-const RELEASE: u32 = 1;
-
-#[no_mangle]
-pub extern "C" fn doorclover_release() -> u32
-    ensures { λ r. ⌜ r ≡ 1 ⌝ }
-{
-    RELEASE
-}
