@@ -6,14 +6,16 @@ use mathlib.Core.Bool.{Bool, cond}
 use Rattle.state.specs.State.{freshState}
 use Rattle.state.specs.Words.{stateOf}
 use Rattle.journal.specs.declared.run.Replayed.{Replayed}
-use Rattle.journal.specs.Step.{Device, deviceOf}
+use Rattle.device.specs.Step.{Device, deviceOf}
 use Rattle.journal.specs.Run.{Replays, freshDevice}
 use Rattle.doorclover.specs.Journal.{Replays as ReplaysFresh}
 
 pub from-fresh :
     (words input store window dest out : List ℕ) (r : Replayed) (early : ℕ) (words′ store′ window′ dest′ out′ : List ℕ)
     → stateOf words ≡ freshState → Replays (deviceOf words store window dest) input out r words′ store′ window′ dest′ out′ → early ≡ cond (r .early) 1 0
-    → ReplaysFresh input store window dest out (record { written = r .written; carried = r .carried; refused = r .refused; early = early }) store′ window′ dest′ out′
+    → ReplaysFresh input store window dest out
+    (record { written = r .written; carried = r .carried; refused = r .refused; early = early })
+    store′ window′ dest′ out′
 from-fresh words input store window dest out r early words′ store′ window′ dest′ out′ fresh ran is =
     let device : deviceOf words store window dest ≡ freshDevice store window dest = λ i. record {
       machine = record { state = fresh i; store = store };

@@ -4,7 +4,7 @@ use mathlib.Core.Path.{_≡_}
 use mathlib.Core.List.{List}
 use mathlib.Core.Bool.{cond}
 use Rattle.octets.specs.Text.{Puts}
-use Rattle.journal.specs.Step.{Device}
+use Rattle.device.specs.Step.{Device}
 use Rattle.journal.specs.Run.{Entry, entries, journalLeaves, freshDevice, logFrom, count, wasCarried, wasRefused, endsEarly}
 use Rattle.doorclover.specs.declared.replay.Replayed.{Replayed}
 

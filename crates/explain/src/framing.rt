@@ -77,7 +77,7 @@ pub(crate) fn explain_frame(
     text: &mut [u8],
 ) -> Explained {
     let before = *state;
-    let carried = journal::carry_out(frame, state, store, window, destination);
+    let carried = device::carry_out(frame, state, store, window, destination);
     let answer = carried.answer;
     let n = console::within(destination, carried.delivered);
     let delivered = &destination[..n];

@@ -7,8 +7,8 @@ use lib.ListN.{length}
 use Rattle.state.specs.Verdict.{accepted}
 use Rattle.octets.specs.Lists.{overwrite}
 use Rattle.log.specs.Line.{lineOf}
-use Rattle.journal.specs.Step.{Device, deviceOf}
-use Rattle.journal.specs.Frame.{takenUp, letterOf, frameSays, frameLeaves, frameDelivers}
+use Rattle.device.specs.Step.{Device, deviceOf}
+use Rattle.device.specs.Frame.{takenUp, letterOf, frameSays, frameLeaves, frameDelivers}
 use Rattle.journal.specs.Run.{entries, journalLeaves, count, wasCarried, wasRefused, endsEarly}
 use Rattle.fetchlog.specs.declared.printing.Shown.{Shown}
 use Rattle.fetchlog.specs.declared.printing.Printed.{Printed}

@@ -1,7 +1,7 @@
 // A journal is run. The line of each frame is made whole at the front of a buffer and written to standard output.
 ghost use mathlib.Core.Path.{_≡_};
 ghost use lib.ListN.{length};
-ghost use Rattle.journal.specs.Step.{deviceOf};
+ghost use Rattle.device.specs.Step.{deviceOf};
 ghost use Rattle.fetchlog.specs.Print.{Shows, Prints};
 use libc::STDOUT_FILENO;
 use octets::one_if;

@@ -7,8 +7,8 @@ use mathlib.Core.Bool.{Bool, true, false}
 use lib.ListN.{length, drop}
 use Rattle.cache.specs.Runs.{Call, Machine, says, after, delivers, along, ran}
 use Rattle.history.proofs.Delivery.{delivery-rule}
-use Rattle.journal.specs.Step.{Device}
-use Rattle.journal.specs.Frame.{isReadable, takenUp, frameCall, frameSays, frameLeaves, frameDelivers}
+use Rattle.device.specs.Step.{Device}
+use Rattle.device.specs.Frame.{isReadable, takenUp, frameCall, frameSays, frameLeaves, frameDelivers}
 use Rattle.journal.specs.Run.{Entry, entryOf, entriesIn, leftIn, freshDevice}
 use Rattle.journal.proofs.Running.{entries-read, entries-unread, left-read, left-unread}
 use Rattle.journal.specs.Claims.{callsIn, ofCalls, JournalIsRun, LogDelivers}

@@ -24,8 +24,8 @@ use Rattle.cache.specs.OwnWrite.{ownSays}
 use Rattle.cache.specs.Runs.{Call, begin, fetch, end, hostWrite, ownWrite, show, Machine, says, destAfter, wanted, delivers}
 use Rattle.cache.proofs.Accepted.{ended, fetched}
 use Rattle.log.proofs.Lengths.{Short, refusal, none, one, two, line-short}
-use Rattle.journal.specs.Step.{Device, callOf}
-use Rattle.journal.specs.Frame.{isReadable, takenUp, stepRead, letterOf, frameCall, frameSays, frameDelivers}
+use Rattle.device.specs.Step.{Device, callOf}
+use Rattle.device.specs.Frame.{isReadable, takenUp, stepRead, letterOf, frameCall, frameSays, frameDelivers}
 use Rattle.journal.specs.Claims.{LineFits}
 
 -- a verdict is short if the numbers of its checks are, and its reply where it is accepted

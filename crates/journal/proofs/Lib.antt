@@ -1,5 +1,3 @@
-pub mod Steps
-pub mod Frames
 pub mod Running
 pub mod Claims
 pub mod Fits

@@ -15,8 +15,8 @@ use Rattle.frames.proofs.Accepted.{readable, reads}
 use Rattle.octets.specs.Text.{Puts}
 use Rattle.log.specs.Line.{lineOf}
 use Rattle.text.proofs.Putting.{puts-is, puts-none, puts-both}
-use Rattle.journal.specs.Step.{Device, deviceOf}
-use Rattle.journal.specs.Frame.{isReadable, takenUp, letterOf, frameSays, frameLeaves, frameDelivers}
+use Rattle.device.specs.Step.{Device, deviceOf}
+use Rattle.device.specs.Frame.{isReadable, takenUp, letterOf, frameSays, frameLeaves, frameDelivers}
 use Rattle.journal.specs.Run.{Entry, entryOf, entriesIn, leftIn, entries, journalLeaves, logFrom, count, wasCarried, wasRefused, endsEarly, Replays}
 
 -- How many bytes a frame takes up

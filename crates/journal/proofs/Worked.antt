@@ -3,7 +3,7 @@ use mathlib.Core.Path.{_≡_, refl}
 use mathlib.Core.List.{[], _∷_}
 use lib.ListN.{replicate}
 use Rattle.journal.specs.Run.{entriesIn, entries, freshDevice, logFrom}
-use Rattle.journal.specs.Frame.{stepOf, frameSays, frameLeaves, frameDelivers}
+use Rattle.device.specs.Frame.{stepOf, frameSays, frameLeaves, frameDelivers}
 use Rattle.octets.specs.Lists.{all}
 use Rattle.state.specs.Records.{held, span, addresses, total, place, countFresh, keep, lowest, highest, joined}
 use Rattle.state.specs.State.{ascending, commandHolds, holds}

@@ -8,15 +8,16 @@ use Rattle.cache.specs.Runs.{Call, says, delivers, along, ran}
 use Rattle.history.specs.Journal.{journal, told}
 use Rattle.history.specs.Firsts.{owed}
 use Rattle.log.specs.Line.{lineOf}
-use Rattle.journal.specs.Step.{Device}
-use Rattle.journal.specs.Frame.{isReadable, takenUp, letterOf, frameCall, frameSays, frameLeaves, frameDelivers}
+use Rattle.device.specs.Step.{Device}
+use Rattle.device.specs.Frame.{isReadable, takenUp, letterOf, frameCall, frameSays, frameLeaves, frameDelivers}
 use Rattle.journal.specs.Run.{Entry, entries, journalLeaves, freshDevice}
 
 -- the calls of a journal's readable frames, in their order; each is given the window that the one before it left
 unfoldable pub callsIn : (steps : ℕ) → Device → (input : List ℕ) → List Call
 callsIn zero d input = []
 callsIn (suc steps) d [] = []
-callsIn (suc steps) d (x ∷ xs) = elim (isReadable (x ∷ xs)) [ true ↦ frameCall d (x ∷ xs) ∷ callsIn steps (frameLeaves d (x ∷ xs)) (drop (takenUp (x ∷ xs)) (x ∷ xs)) | false ↦ [] ]
+callsIn (suc steps) d (x ∷ xs) =
+    elim (isReadable (x ∷ xs)) [ true ↦ frameCall d (x ∷ xs) ∷ callsIn steps (frameLeaves d (x ∷ xs)) (drop (takenUp (x ∷ xs)) (x ∷ xs)) | false ↦ [] ]
 
 abbrev pub calls : Device → (input : List ℕ) → List Call
 calls d input = callsIn (length input) d input

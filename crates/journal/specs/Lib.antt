@@ -1,4 +1,2 @@
-pub mod Step
-pub mod Frame
 pub mod Run
 pub mod Claims

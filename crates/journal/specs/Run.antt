@@ -11,8 +11,8 @@ use Rattle.octets.specs.Text.{Puts}
 use Rattle.log.specs.Line.{lineOf}
 use Rattle.journal.specs.declared.line.Logged.{Logged}
 use Rattle.journal.specs.declared.run.Replayed.{Replayed}
-use Rattle.journal.specs.Step.{Device, deviceOf}
-use Rattle.journal.specs.Frame.{isReadable, takenUp, letterOf, frameSays, frameLeaves, frameDelivers}
+use Rattle.device.specs.Step.{Device, deviceOf}
+use Rattle.device.specs.Frame.{isReadable, takenUp, letterOf, frameSays, frameLeaves, frameDelivers}
 
 -- what the log tells of a frame
 pub record Entry : Type 0 where

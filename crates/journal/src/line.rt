@@ -2,9 +2,9 @@
 ghost use mathlib.Core.Path.{_≡_};
 ghost use Rattle.state.specs.Verdict.{accepted};
 ghost use Rattle.log.specs.Line.{answerReply};
-ghost use Rattle.journal.specs.Step.{deviceOf};
+ghost use Rattle.device.specs.Step.{deviceOf};
 ghost use Rattle.journal.specs.Run.{Logs};
-use crate::frame::carry_out;
+use device::carry_out;
 use log::Answer;
 use state::CacheState;
 

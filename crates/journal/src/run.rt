@@ -1,5 +1,5 @@
 // A whole journal is run, and its log is made.
-ghost use Rattle.journal.specs.Step.{deviceOf};
+ghost use Rattle.device.specs.Step.{deviceOf};
 ghost use Rattle.journal.specs.Run.{Replays};
 use crate::line::log_frame;
 use octets::one_if;

@@ -37,7 +37,15 @@ shownOf says = record { status = statusOf says; start = member 0 says; len = mem
 
 -- the reader says the bytes taken up first, and then the numbers of the step
 abbrev pub stepOf : Reply → FrameStep
-stepOf says = record { status = statusOf says; kind = member 1 says; command = member 2 says; address = member 3 says; size = member 4 says; taken = member 0 says }
+stepOf says =
+    record {
+      status = statusOf says;
+      kind = member 1 says;
+      command = member 2 says;
+      address = member 3 says;
+      size = member 4 says;
+      taken = member 0 says;
+    }
 
 abbrev pub framedOf : Reply → Framed
 framedOf says = record { status = statusOf says; size = member 0 says }

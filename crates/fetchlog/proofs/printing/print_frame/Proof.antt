@@ -9,8 +9,8 @@ use denote.Ref.{now}
 use borrow.Author.Needs.{needs}
 use Rattle.octets.specs.Lists.{overwrite}
 use Rattle.log.specs.Line.{lineOf}
-use Rattle.journal.specs.Step.{Device, deviceOf}
-use Rattle.journal.specs.Frame.{letterOf, frameSays, frameDelivers}
+use Rattle.device.specs.Step.{Device, deviceOf}
+use Rattle.device.specs.Frame.{letterOf, frameSays, frameDelivers}
 use Rattle.journal.proofs.Fits.{line-fits}
 use Rattle.fetchlog.proofs.printing.print_frame.Statement.{statement}
 use Rattle.fetchlog.proofs.printing.print_frame.Tie as tie

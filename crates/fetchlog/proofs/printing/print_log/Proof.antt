@@ -12,8 +12,8 @@ use borrow.Author.Needs.{needs}
 use Rattle.octets.specs.Text.{Puts}
 use Rattle.log.specs.Line.{lineOf}
 use Rattle.text.proofs.Putting.{puts-past}
-use Rattle.journal.specs.Step.{Device, deviceOf}
-use Rattle.journal.specs.Frame.{isReadable, letterOf, frameSays, frameDelivers}
+use Rattle.device.specs.Step.{Device, deviceOf}
+use Rattle.device.specs.Frame.{isReadable, letterOf, frameSays, frameDelivers}
 use Rattle.journal.specs.Run.{Replays}
 use Rattle.journal.proofs.Running.{Running, running-start, running-turn, taken-read, taken-unread, replays-unreadable, replays-all}
 use Rattle.fetchlog.specs.Print.{Shows}

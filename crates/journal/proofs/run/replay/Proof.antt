@@ -9,8 +9,8 @@ use lib.ListN.{length, take, drop, length-drop}
 use lib.Seq.{take-all}
 use denote.Ref.{now}
 use borrow.Author.Needs.{needs}
-use Rattle.journal.specs.Step.{Device, deviceOf}
-use Rattle.journal.specs.Frame.{isReadable}
+use Rattle.device.specs.Step.{Device, deviceOf}
+use Rattle.device.specs.Frame.{isReadable}
 use Rattle.journal.specs.Run.{Logs}
 use Rattle.journal.proofs.Running.{Running, running-start, running-turn, taken-read, taken-unread, replays-unreadable, replays-all}
 use Rattle.journal.proofs.run.replay.Statement.{statement}

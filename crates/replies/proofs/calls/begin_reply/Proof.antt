@@ -10,7 +10,9 @@ use Rattle.replies.proofs.calls.begin_reply.Statement.{statement}
 use Rattle.replies.proofs.calls.begin_reply.Tie as tie
 
 returns : tie.Need-returns
-returns c = ap (λ (n : ℕ). begunOf (refused n)) (c .status .ensures) ∙ sym (ap (λ (a : BeginAnswer). begunOf (beginReply a)) (c .before .before .answer .given .1))
+returns c =
+    ap (λ (n : ℕ). begunOf (refused n)) (c .status .ensures)
+    ∙ sym (ap (λ (a : BeginAnswer). begunOf (beginReply a)) (c .before .before .answer .given .1))
 
 returns-2 : tie.Need-returns-2
 returns-2 c = sym (ap (λ (a : BeginAnswer). begunOf (beginReply a)) (c .enum-told .given .1))

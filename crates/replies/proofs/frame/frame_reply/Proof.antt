@@ -10,7 +10,9 @@ use Rattle.replies.proofs.frame.frame_reply.Statement.{statement}
 use Rattle.replies.proofs.frame.frame_reply.Tie as tie
 
 returns : tie.Need-returns
-returns c = ap (λ (n : ℕ). framedOf (refused n)) (c .status .ensures) ∙ sym (ap (λ (a : WriteAnswer). framedOf (writeReply a)) (c .before .before .answer .given .1))
+returns c =
+    ap (λ (n : ℕ). framedOf (refused n)) (c .status .ensures)
+    ∙ sym (ap (λ (a : WriteAnswer). framedOf (writeReply a)) (c .before .before .answer .given .1))
 
 returns-2 : tie.Need-returns-2
 returns-2 c = sym (ap (λ (a : WriteAnswer). framedOf (writeReply a)) (c .before .answer2 .given .1))

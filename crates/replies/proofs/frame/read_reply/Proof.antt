@@ -10,7 +10,9 @@ use Rattle.replies.proofs.frame.read_reply.Statement.{statement}
 use Rattle.replies.proofs.frame.read_reply.Tie as tie
 
 returns : tie.Need-returns
-returns c = ap (λ (n : ℕ). stepOf (refused n)) (c .status .ensures) ∙ sym (ap (λ (a : ReadAnswer). stepOf (readReply a)) (c .before .before .answer .given .1))
+returns c =
+    ap (λ (n : ℕ). stepOf (refused n)) (c .status .ensures)
+    ∙ sym (ap (λ (a : ReadAnswer). stepOf (readReply a)) (c .before .before .answer .given .1))
 
 returns-2 : tie.Need-returns-2
 returns-2 c = c .step-reply .ensures ∙ sym (ap (λ (a : ReadAnswer). stepOf (readReply a)) (c .before .before .answer2 .given .1))

@@ -3,10 +3,10 @@ use denote.Ref.{now}
 use borrow.Author.Needs.{needs}
 use Rattle.state.proofs.Verdict.{says-of}
 use Rattle.frames.specs.Read.{readReply}
-use Rattle.journal.specs.Step.{deviceOf}
-use Rattle.journal.proofs.Frames.{carries-unreadable, carries-step}
-use Rattle.journal.proofs.frame.carry_out.Statement.{statement}
-use Rattle.journal.proofs.frame.carry_out.Tie as tie
+use Rattle.device.specs.Step.{deviceOf}
+use Rattle.device.proofs.Frames.{carries-unreadable, carries-step}
+use Rattle.device.proofs.frame.carry_out.Statement.{statement}
+use Rattle.device.proofs.frame.carry_out.Tie as tie
 
 returns : tie.Need-returns
 returns c =

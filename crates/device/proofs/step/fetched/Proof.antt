@@ -2,8 +2,8 @@
 use mathlib.Core.Path.{ap, sym}
 use borrow.Author.Needs.{needs}
 use Rattle.fetch.specs.Fetch.{fetchReply}
-use Rattle.journal.proofs.step.fetched.Statement.{statement}
-use Rattle.journal.proofs.step.fetched.Tie as tie
+use Rattle.device.proofs.step.fetched.Statement.{statement}
+use Rattle.device.proofs.step.fetched.Tie as tie
 
 returns : tie.Need-returns
 returns c = sym (ap fetchReply (c .before .answer .given .1))

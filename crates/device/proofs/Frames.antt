@@ -14,9 +14,9 @@ use Rattle.frames.specs.Kinds.{kindOf}
 use Rattle.frames.specs.Read.{stepNumbers, readSays, dataOf}
 use Rattle.cache.specs.Runs.{Call, says, delivers}
 use Rattle.log.specs.declared.line.Answer.the-variants.{Refused}
-use Rattle.journal.specs.declared.step.Made.{Made}
-use Rattle.journal.specs.Step.{Device, deviceOf, callOf, deviceAfter, Makes}
-use Rattle.journal.specs.Frame.{stepOf, isReadable, takenUp, stepRead, frameCall, frameSays, frameLeaves, frameDelivers, Carries}
+use Rattle.device.specs.declared.step.Made.{Made}
+use Rattle.device.specs.Step.{Device, deviceOf, callOf, deviceAfter, Makes}
+use Rattle.device.specs.Frame.{stepOf, isReadable, takenUp, stepRead, frameCall, frameSays, frameLeaves, frameDelivers, Carries}
 
 -- the step of a step's numbers is the step
 step-of : (s : Step) → stepOf (stepNumbers s) ≡ s

@@ -2,8 +2,8 @@
 use mathlib.Core.Path.{ap, sym}
 use borrow.Author.Needs.{needs}
 use Rattle.cache.specs.Begin.{beginReply}
-use Rattle.journal.proofs.step.begun.Statement.{statement}
-use Rattle.journal.proofs.step.begun.Tie as tie
+use Rattle.device.proofs.step.begun.Statement.{statement}
+use Rattle.device.proofs.step.begun.Tie as tie
 
 returns-2 : tie.Need-returns-2
 returns-2 c = sym (ap beginReply (c .before .answer .given .1))

@@ -14,8 +14,8 @@ use Rattle.frames.specs.Kinds.{kindOf}
 use Rattle.frames.specs.Read.{readSays, dataOf}
 use Rattle.cache.specs.Runs.{Call, says, delivers}
 use Rattle.log.specs.Line.{answerReply}
-use Rattle.journal.specs.declared.frame.Carried.{Carried}
-use Rattle.journal.specs.Step.{Device, deviceOf, callOf, deviceAfter}
+use Rattle.device.specs.declared.frame.Carried.{Carried}
+use Rattle.device.specs.Step.{Device, deviceOf, callOf, deviceAfter}
 
 -- the step of these numbers: kind, command, address, length
 unfoldable pub stepOf : List ℕ → Step

@@ -7,7 +7,7 @@ ghost use Rattle.cache.specs.End.{endReply};
 ghost use Rattle.cache.specs.HostWrite.{writeReply};
 ghost use Rattle.fetch.specs.Fetch.{fetchReply};
 ghost use Rattle.log.specs.Line.{answerReply};
-ghost use Rattle.journal.specs.Step.{deviceOf, callOf, Makes};
+ghost use Rattle.device.specs.Step.{deviceOf, callOf, Makes};
 use cache::begin::BeginAnswer;
 use cache::end::EndAnswer;
 use cache::host_write::WriteAnswer;

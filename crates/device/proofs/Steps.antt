@@ -11,7 +11,7 @@ use Rattle.cache.proofs.Accepted.{fetched}
 use Rattle.cache.specs.Runs.{Call, fetch, Machine, says, wanted, destAfter, delivers}
 use Rattle.log.specs.declared.line.Answer.{Answer}
 use Rattle.log.specs.Line.{answerReply}
-use Rattle.journal.specs.Step.{Device, deviceOf, deviceAfter, Makes}
+use Rattle.device.specs.Step.{Device, deviceOf, deviceAfter, Makes}
 
 -- devices of equal parts are equal
 pub equal-devices :

@@ -5,8 +5,8 @@ use Rattle.state.specs.Verdict.{accepted}
 use Rattle.fetch.specs.declared.FetchAnswer.{FetchAnswer}
 use Rattle.fetch.specs.Fetch.{fetchReply}
 use borrow.Author.Needs.{needs}
-use Rattle.journal.proofs.step.delivered.Statement.{statement}
-use Rattle.journal.proofs.step.delivered.Tie as tie
+use Rattle.device.proofs.step.delivered.Statement.{statement}
+use Rattle.device.proofs.step.delivered.Tie as tie
 
 returns : tie.Need-returns
 unfolding accepted

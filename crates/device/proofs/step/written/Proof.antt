@@ -2,8 +2,8 @@
 use mathlib.Core.Path.{ap, sym}
 use borrow.Author.Needs.{needs}
 use Rattle.cache.specs.HostWrite.{writeReply}
-use Rattle.journal.proofs.step.written.Statement.{statement}
-use Rattle.journal.proofs.step.written.Tie as tie
+use Rattle.device.proofs.step.written.Statement.{statement}
+use Rattle.device.proofs.step.written.Tie as tie
 
 returns : tie.Need-returns
 returns c = sym (ap writeReply (c .before .answer .given .1))

@@ -2,8 +2,8 @@
 use mathlib.Core.Path.{ap, sym}
 use borrow.Author.Needs.{needs}
 use Rattle.cache.specs.End.{endReply}
-use Rattle.journal.proofs.step.ended.Statement.{statement}
-use Rattle.journal.proofs.step.ended.Tie as tie
+use Rattle.device.proofs.step.ended.Statement.{statement}
+use Rattle.device.proofs.step.ended.Tie as tie
 
 returns : tie.Need-returns
 returns c = sym (ap endReply (c .before .answer .given .1))

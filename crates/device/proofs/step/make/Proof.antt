@@ -6,10 +6,10 @@ use denote.Ref.{now}
 use borrow.Author.Needs.{needs}
 use Rattle.state.specs.Verdict.{Reply, accepted}
 use Rattle.cache.specs.Runs.{begin, end, hostWrite, ownWrite}
-use Rattle.journal.specs.Step.{Device, deviceOf}
-use Rattle.journal.proofs.Steps.{equal-devices, makes-undelivered, fetch-delivers, fetch-within}
-use Rattle.journal.proofs.step.make.Statement.{statement}
-use Rattle.journal.proofs.step.make.Tie as tie
+use Rattle.device.specs.Step.{Device, deviceOf}
+use Rattle.device.proofs.Steps.{equal-devices, makes-undelivered, fetch-delivers, fetch-within}
+use Rattle.device.proofs.step.make.Statement.{statement}
+use Rattle.device.proofs.step.make.Tie as tie
 
 -- what is lent
 abbrev device : tie.Start → Device
