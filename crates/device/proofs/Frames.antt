@@ -10,7 +10,7 @@ use Rattle.state.specs.Refusals.{number}
 use Rattle.state.specs.Verdict.{Reply, refused, replied, accepted, numbersOf}
 use Rattle.frames.specs.declared.Step.{Step}
 use Rattle.frames.specs.declared.Step.the-variants.{Begin, Fetch, End, HostWrite, OwnWrite}
-use Rattle.frames.specs.Kinds.{kindOf}
+use Rattle.kinds.specs.Table.{kindOf}
 use Rattle.frames.specs.Read.{stepNumbers, readSays, dataOf}
 use Rattle.cache.specs.Runs.{Call, says, delivers}
 use Rattle.log.specs.declared.line.Answer.the-variants.{Refused}

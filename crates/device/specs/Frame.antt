@@ -10,7 +10,7 @@ use lib.ListN.{length, take, drop, getD}
 use Rattle.state.specs.Verdict.{Reply, accepted, numbersOf}
 use Rattle.frames.specs.declared.Step.{Step}
 use Rattle.frames.specs.declared.Step.the-variants.{Begin, Fetch, End, HostWrite, OwnWrite}
-use Rattle.frames.specs.Kinds.{kindOf}
+use Rattle.kinds.specs.Table.{kindOf}
 use Rattle.frames.specs.Read.{readSays, dataOf}
 use Rattle.cache.specs.Runs.{Call, says, delivers}
 use Rattle.log.specs.Line.{answerReply}

@@ -1,14 +1,13 @@
 // One frame is carried out: read, and its call made.
 ghost use mathlib.Core.Path.{_≡_};
 ghost use lib.ListN.{getD};
-ghost use Rattle.frames.specs.Kinds.{kindOf};
+ghost use Rattle.kinds.specs.Table.{kindOf};
 ghost use Rattle.frames.specs.Read.{stepNumbers};
 ghost use Rattle.device.specs.Step.{deviceOf};
 ghost use Rattle.device.specs.Frame.{Carries};
 use crate::step::make;
 use frames::ReadAnswer;
 use frames::Step;
-use frames::tables;
 use log::Answer;
 use state::CacheState;
 
@@ -28,11 +27,11 @@ fn letter(step: Step) -> u8
     ensures { λ r. ⌜ r ≡ kindOf (getD (stepNumbers step) 0 0) .letter ⌝ }
 {
     match step {
-        Step::Begin { .. } => tables::letter(0),
-        Step::Fetch { .. } => tables::letter(1),
-        Step::End { .. } => tables::letter(2),
-        Step::HostWrite { .. } => tables::letter(3),
-        Step::OwnWrite { .. } => tables::letter(4),
+        Step::Begin { .. } => kinds::letter(0),
+        Step::Fetch { .. } => kinds::letter(1),
+        Step::End { .. } => kinds::letter(2),
+        Step::HostWrite { .. } => kinds::letter(3),
+        Step::OwnWrite { .. } => kinds::letter(4),
     }
 }
 

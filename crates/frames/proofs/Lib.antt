@@ -1,5 +1,5 @@
 pub mod Bits
-pub mod Table
+pub mod Sizes
 pub mod Heads
 pub mod Zeros
 pub mod Accepted

@@ -4,7 +4,7 @@ use mathlib.Core.Path.{_≡_, refl, sym, _∙_}
 use mathlib.Core.Bool.{Bool, true, false, false≢true, _||_}
 use lib.Dec.{eqb}
 use borrow.Author.Tests.{eqb-true, not-false}
-use Rattle.frames.specs.Kinds.{kindOf}
+use Rattle.kinds.specs.Table.{kindOf}
 use Rattle.frames.specs.Checks.{notZero, zeroBroken}
 
 or-left : (a b : Bool) → (a || b) ≡ false → a ≡ false

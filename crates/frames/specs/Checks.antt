@@ -8,7 +8,8 @@ use Rattle.state.specs.Limits.{windowLimit}
 use Rattle.state.specs.Refusals.{number}
 use Rattle.state.specs.Verdict.{Check, _⇒_}
 use Rattle.frames.specs.Layout.{headSize}
-use Rattle.frames.specs.Kinds.{isKind, kindOf, dataSize}
+use Rattle.kinds.specs.Table.{isKind, kindOf}
+use Rattle.frames.specs.Kinds.{dataSize}
 
 -- 1: too few bytes for a head
 abbrev pub frameTooShort : (given : ℕ) → Check

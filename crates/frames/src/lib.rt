@@ -1,9 +1,9 @@
-// Step frames: the table of kinds, the reader and the writer.
+// Step frames: the reader and the writer.
 use state::Refusal;
 
+mod checks;
 mod layout;
 mod reader;
-pub mod tables;
 mod writer;
 
 pub use reader::data;

@@ -2,10 +2,12 @@
 use crate::Parsed;
 use crate::ReadAnswer;
 use crate::Step;
+use crate::checks::data_size;
+use crate::checks::zero_broken;
 use crate::layout;
 use crate::layout::HEAD;
 use crate::layout::Head;
-use crate::tables;
+use kinds::allowed;
 use state::CacheState;
 use state::Refusal;
 ghost use mathlib.Core.Path.{_≡_};
@@ -13,7 +15,7 @@ ghost use mathlib.Core.List.{[], _∷_};
 ghost use mathlib.Core.Bool.{true, false};
 ghost use Prim.Native.Nat.{_≤_};
 ghost use Rattle.frames.specs.Layout.{headSize};
-ghost use Rattle.frames.specs.Kinds.{isKind};
+ghost use Rattle.kinds.specs.Table.{isKind};
 ghost use Rattle.frames.specs.Checks.{zeroBroken};
 ghost use Rattle.frames.specs.Read.{stepNumbers, readReply, fieldsSay, readSays, dataOf};
 
@@ -33,16 +35,16 @@ fn judge(given: usize, head: Head) -> ReadAnswer
 {
     let kind = head.kind;
     let size = head.size;
-    if !tables::allowed(kind) {
+    if !allowed(kind) {
         return ReadAnswer::Refused(Refusal::UnknownKind);
     }
-    if tables::zero_broken(kind, head.command, head.address, size, head.spare) {
+    if zero_broken(kind, head.command, head.address, size, head.spare) {
         return ReadAnswer::Refused(Refusal::FieldNotZero);
     }
     if size > CacheState::TRANSFER {
         return ReadAnswer::Refused(Refusal::LengthTooLong);
     }
-    let follow = tables::data_size(kind, size);
+    let follow = data_size(kind, size);
     if given - HEAD < follow {
         return ReadAnswer::Refused(Refusal::DataMismatch);
     }

@@ -1,8 +1,10 @@
 // Writes a frame to the front of an output, or refuses and leaves the output as it is.
 use crate::WriteAnswer;
+use crate::checks::data_size;
+use crate::checks::zero_broken;
 use crate::layout;
 use crate::layout::HEAD;
-use crate::tables;
+use kinds::allowed;
 use state::CacheState;
 use state::Refusal;
 ghost use mathlib.Core.Path.{_≡_};
@@ -40,16 +42,16 @@ fn judge(
 ) -> WriteAnswer
     ensures { λ r. ⌜ writeReply r ≡ writeSays kind command address size given room ⌝ }
 {
-    if !tables::allowed(kind) {
+    if !allowed(kind) {
         return WriteAnswer::Refused(Refusal::UnknownKind);
     }
-    if tables::zero_broken(kind, command, address, size, 0) {
+    if zero_broken(kind, command, address, size, 0) {
         return WriteAnswer::Refused(Refusal::FieldNotZero);
     }
     if size > CacheState::TRANSFER {
         return WriteAnswer::Refused(Refusal::LengthTooLong);
     }
-    let follow = tables::data_size(kind, size);
+    let follow = data_size(kind, size);
     if given != follow {
         return WriteAnswer::Refused(Refusal::DataMismatch);
     }

@@ -5,7 +5,7 @@ use Prim.Native.Char.{code}
 use mathlib.Core.Path.{_≡_, refl}
 use mathlib.Core.List.{[], _∷_, map}
 use Rattle.state.specs.Verdict.{refused, replied}
-use Rattle.frames.specs.Kinds.{kindOf}
+use Rattle.kinds.specs.Table.{kindOf}
 use Rattle.octets.specs.Text.{ascii}
 use Rattle.text.specs.Decimal.{digits, decimal}
 use Rattle.text.specs.Hexadecimal.{hexDigit, hexadecimal}

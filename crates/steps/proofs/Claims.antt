@@ -7,7 +7,7 @@ use mathlib.Core.Bool.{Bool, true, false, cond}
 use lib.Dec.{ltb}
 use lib.ListN.{length, take, length-take}
 use Rattle.octets.proofs.Overwrite.{length-overwrite, overwrite-front}
-use Rattle.frames.specs.Kinds.{kindOf, isKind}
+use Rattle.kinds.specs.Table.{kindOf, isKind}
 use Rattle.steps.specs.declared.Fault.{Fault}
 use Rattle.steps.specs.declared.Fault.the-variants.{UnknownLetter, ByteOrderMark}
 use Rattle.steps.specs.declared.Step.{Step}

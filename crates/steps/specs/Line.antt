@@ -4,7 +4,7 @@ use mathlib.Core.List.{List, [], _∷_}
 use mathlib.Core.Bool.{Bool, true, false, not, _&&_, _||_, cond}
 use lib.Dec.{ltb, eqb}
 use lib.ListN.{length, take, getD}
-use Rattle.frames.specs.Kinds.{Kind, kinds, kindOf, isKind}
+use Rattle.kinds.specs.Table.{Kind, kinds, kindOf, isKind}
 use Rattle.scan.specs.declared.Stop.the-variants.{Comment, Equals}
 use Rattle.steps.specs.declared.Fault.{Fault}
 use Rattle.steps.specs.declared.Fault.the-variants.{Sound, UnknownLetter, FieldMissing, NotANumber, NotHexadecimal, OddDigits, FieldTooMany}

@@ -6,7 +6,6 @@ use crate::Step;
 use crate::fields::data_field;
 use crate::fields::end_fault;
 use crate::fields::number_field;
-use frames::tables;
 use scan::Stop;
 use scan::has_word;
 use scan::starts;
@@ -26,7 +25,7 @@ fn kind_for(letter: u8) -> usize
 {
     let mut kind = 0;
     while kind < KINDS {
-        if tables::letter(kind) == letter {
+        if kinds::letter(kind) == letter {
             return kind;
         }
         kind += 1;
@@ -47,16 +46,16 @@ fn kind_named(word: &[u8]) -> usize
 fn has_size(kind: usize) -> bool
     ensures { λ r. ⌜ r ≡ hasSize kind ⌝ }
 {
-    if tables::span_zero(kind) {
+    if kinds::span_zero(kind) {
         return false;
     }
-    !tables::has_data(kind)
+    !kinds::has_data(kind)
 }
 
 fn size_of(kind: usize, size: usize, given: usize) -> usize
     ensures { λ r. ⌜ r ≡ sizeOf kind size given ⌝ }
 {
-    if tables::has_data(kind) { given } else { size }
+    if kinds::has_data(kind) { given } else { size }
 }
 
 fn is_sound(fault: Fault) -> bool
@@ -97,13 +96,13 @@ fn fields(text: &[u8], at: usize, kind: usize, buffer: &mut [u8]) -> Meaning
     ensures meaning { λ r. ⌜ r ≡ fieldsMean (now (text .entry)) at kind ⌝ }
     ensures bytes { λ _. ⌜ now (buffer .exit) ≡ overwrite (now (buffer .entry)) 0 (take (length (now (buffer .entry))) (fieldsData (now (text .entry)) at kind)) ⌝ }
 {
-    let command = number_field(text, at, !tables::command_zero(kind));
+    let command = number_field(text, at, !kinds::command_zero(kind));
     let address_at = command.next;
-    let address = number_field(text, address_at, !tables::span_zero(kind));
+    let address = number_field(text, address_at, !kinds::span_zero(kind));
     let size_at = address.next;
     let size = number_field(text, size_at, has_size(kind));
     let data_at = size.next;
-    let data = data_field(text, data_at, tables::has_data(kind), buffer);
+    let data = data_field(text, data_at, kinds::has_data(kind), buffer);
     let end = data.next;
     let command_fault = command.fault;
     let address_fault = address.fault;

@@ -5,9 +5,9 @@ use borrow.Author.Tests.{le-ltb, lt-ltb, not-true, not-false}
 use borrow.Author.Needs.{needs}
 use Rattle.state.specs.Verdict.{verdict}
 use Rattle.frames.specs.Read.{fieldsSay}
-use Rattle.frames.specs.Kinds.{isKind}
+use Rattle.kinds.specs.Table.{isKind}
 use Rattle.frames.specs.Checks.{zeroBroken}
-use Rattle.frames.proofs.Table.{data-at-most}
+use Rattle.frames.proofs.Sizes.{data-at-most}
 use Rattle.frames.proofs.Zeros.{said}
 use Rattle.frames.proofs.reader.judge.Statement.{statement}
 use Rattle.frames.proofs.reader.judge.Tie as tie

@@ -5,9 +5,9 @@ use borrow.Author.Tests.{le-ltb, lt-ltb, le-leb, lt-leb, eq-eqb, ne-eqb, not-tru
 use borrow.Author.Needs.{needs}
 use Rattle.state.specs.Verdict.{verdict}
 use Rattle.frames.specs.Write.{writeSays}
-use Rattle.frames.specs.Kinds.{isKind}
+use Rattle.kinds.specs.Table.{isKind}
 use Rattle.frames.specs.Checks.{zeroBroken}
-use Rattle.frames.proofs.Table.{data-at-most}
+use Rattle.frames.proofs.Sizes.{data-at-most}
 use Rattle.frames.proofs.Zeros.{said}
 use Rattle.frames.proofs.writer.judge.Statement.{statement}
 use Rattle.frames.proofs.writer.judge.Tie as tie

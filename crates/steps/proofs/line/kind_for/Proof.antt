@@ -7,7 +7,7 @@ use mathlib.Core.Bool.{Bool, false}
 use lib.Dec.{eqb}
 use lib.ListN.{drop}
 use borrow.Author.Tests.{eq-eqb, ne-eqb}
-use Rattle.frames.specs.Kinds.{Kind, row, kinds, kindOf}
+use Rattle.kinds.specs.Table.{Kind, row, kinds, kindOf}
 use Rattle.scan.specs.Scan.{before}
 use Rattle.steps.specs.Line.{kindFor}
 use Rattle.scan.proofs.Scanning.{found, passed, behind}

@@ -5,7 +5,7 @@ use mathlib.Core.Bool.{true, false}
 use denote.Ref.{now}
 use lib.ListN.{length}
 use borrow.Author.Tests.{lt-ltb, le-ltb}
-use Rattle.frames.specs.Kinds.{isKind}
+use Rattle.kinds.specs.Table.{isKind}
 use Rattle.scan.specs.Scan.{wordEnd, hasWord}
 use Rattle.steps.specs.Line.{stepKind, stepMeans, stepData}
 use Rattle.scan.proofs.Scanning.{word-end-most}

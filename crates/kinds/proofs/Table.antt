@@ -3,10 +3,10 @@ use Prim.Native.Nat.{ℕ, zero, suc, _+_, _<_, _≤_}
 use native.Mathlib.Omega.{arith}
 use native.Mathlib.Nat.{add-zero, zero-add, add-suc, suc-add, le-of-suc-le-suc, not-suc-le-zero}
 use mathlib.Core.Path.{_≡_, _∙_, ap, sym}
-use mathlib.Core.Bool.{Bool, true, false, cond}
+use mathlib.Core.Bool.{false}
 use mathlib.Core.List.{List, [], _∷_}
 use lib.ListN.{length, getD, List·getD-eq-default}
-use Rattle.frames.specs.Kinds.{kinds, row, kindOf, dataSize}
+use Rattle.kinds.specs.Table.{kinds, row, kindOf}
 
 module _ {A : Type 0} (rule : ℕ → A) where
   -- what the rule gives at n places, counted from i
@@ -26,12 +26,3 @@ module _ {A : Type 0} (rule : ℕ → A) where
 -- past its rows the table of kinds has the row with nothing in it
 pub past : (k : ℕ) → 8 ≤ k → kindOf k ≡ row 0 false false false
 past k h = let beyond : length kinds ≤ k = omega arith in List·getD-eq-default kinds (row 0 false false false) beyond
-
--- the data are no longer than the length field says
-pub data-at-most : (kind size : ℕ) → dataSize kind size ≤ size
-unfolding dataSize
-data-at-most kind size = go (kindOf kind .hasData)
-  where
-    go : (b : Bool) → cond b size 0 ≤ size
-    go true = omega arith
-    go false = omega arith

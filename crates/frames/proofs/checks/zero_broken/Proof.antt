@@ -2,8 +2,8 @@
 use borrow.Author.Needs.{needs}
 use Rattle.frames.specs.Checks.{zeroBroken}
 use Rattle.frames.proofs.Zeros.{told}
-use Rattle.frames.proofs.tables.zero_broken.Statement.{statement}
-use Rattle.frames.proofs.tables.zero_broken.Tie as tie
+use Rattle.frames.proofs.checks.zero_broken.Statement.{statement}
+use Rattle.frames.proofs.checks.zero_broken.Tie as tie
 
 command-zero-requires : tie.Need-command-zero-requires
 command-zero-requires c κs = search needs

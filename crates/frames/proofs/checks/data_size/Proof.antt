@@ -1,8 +1,8 @@
 -- The column that `has_data` gives decides.
 use borrow.Author.Needs.{needs}
 use Rattle.frames.specs.Kinds.{dataSize}
-use Rattle.frames.proofs.tables.data_size.Statement.{statement}
-use Rattle.frames.proofs.tables.data_size.Tie as tie
+use Rattle.frames.proofs.checks.data_size.Statement.{statement}
+use Rattle.frames.proofs.checks.data_size.Tie as tie
 
 has-data-requires : tie.Need-has-data-requires
 has-data-requires c κs = search needs

@@ -2,10 +2,10 @@
 use native.Mathlib.Omega.{arith}
 use mathlib.Core.Bool.{false}
 use borrow.Author.Needs.{needs}
-use Rattle.frames.specs.Kinds.{kindOf}
-use Rattle.frames.proofs.Table.{at, past}
-use Rattle.frames.proofs.tables.command_zero.Statement.{statement}
-use Rattle.frames.proofs.tables.command_zero.Tie as tie
+use Rattle.kinds.specs.Table.{kindOf}
+use Rattle.kinds.proofs.Table.{at, past}
+use Rattle.kinds.proofs.command_zero.Statement.{statement}
+use Rattle.kinds.proofs.command_zero.Tie as tie
 
 array-read-result : tie.Need-array-read-result
 array-read-result c = search needs

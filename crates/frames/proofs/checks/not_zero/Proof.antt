@@ -1,7 +1,7 @@
 -- Each arm knows whether the number must be zero.
 use Rattle.frames.specs.Checks.{notZero}
-use Rattle.frames.proofs.tables.not_zero.Statement.{statement}
-use Rattle.frames.proofs.tables.not_zero.Tie as tie
+use Rattle.frames.proofs.checks.not_zero.Statement.{statement}
+use Rattle.frames.proofs.checks.not_zero.Tie as tie
 
 returns : tie.Need-returns
 unfolding notZero

@@ -3,10 +3,10 @@ use native.Mathlib.Omega.{arith}
 use mathlib.Core.Bool.{false}
 use borrow.Author.Tests.{le-ltb}
 use borrow.Author.Needs.{needs}
-use Rattle.frames.specs.Kinds.{isKind}
-use Rattle.frames.proofs.Table.{at}
-use Rattle.frames.proofs.tables.allowed.Statement.{statement}
-use Rattle.frames.proofs.tables.allowed.Tie as tie
+use Rattle.kinds.specs.Table.{isKind}
+use Rattle.kinds.proofs.Table.{at}
+use Rattle.kinds.proofs.allowed.Statement.{statement}
+use Rattle.kinds.proofs.allowed.Tie as tie
 
 array-read-result : tie.Need-array-read-result
 array-read-result c = search needs

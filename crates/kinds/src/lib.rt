@@ -1,7 +1,6 @@
-// The table of kinds, a constant for each of its columns, indexed by kind.
+// The table of kinds of steps, a constant for each of its columns, indexed by kind.
 ghost use mathlib.Core.Path.{_≡_};
-ghost use Rattle.frames.specs.Kinds.{isKind, kindOf, dataSize};
-ghost use Rattle.frames.specs.Checks.{notZero, zeroBroken};
+ghost use Rattle.kinds.specs.Table.{isKind, kindOf};
 
 const KINDS: usize = 8;
 
@@ -22,7 +21,8 @@ pub fn letter(kind: usize) -> u8
     if kind < KINDS { LETTER[kind] } else { 0 }
 }
 
-pub(crate) fn allowed(kind: usize) -> bool
+// Has the kind a row?
+pub fn allowed(kind: usize) -> bool
     ensures { λ r. ⌜ r ≡ isKind kind ⌝ }
 {
     if kind < KINDS { ALLOWED[kind] } else { false }
@@ -50,40 +50,4 @@ pub fn has_data(kind: usize) -> bool
     ensures { λ r. ⌜ r ≡ kindOf kind .hasData ⌝ }
 {
     if kind < KINDS { HAS_DATA[kind] } else { false }
-}
-
-// How many bytes of data follow the head of a frame.
-pub(crate) fn data_size(kind: usize, size: usize) -> usize
-    ensures { λ r. ⌜ r ≡ dataSize kind size ⌝ }
-{
-    if has_data(kind) { size } else { 0 }
-}
-
-// Is a number not zero that must be?
-fn not_zero(must: bool, n: usize) -> bool
-    ensures { λ r. ⌜ r ≡ notZero must n ⌝ }
-{
-    if must { n != 0 } else { false }
-}
-
-// Is a field that must be zero, or a spare bit, not zero?
-pub(crate) fn zero_broken(
-    kind: usize,
-    command: usize,
-    address: usize,
-    size: usize,
-    spare: usize,
-) -> bool
-    ensures { λ r. ⌜ r ≡ zeroBroken kind command address size spare ⌝ }
-{
-    if not_zero(command_zero(kind), command) {
-        return true;
-    }
-    if not_zero(span_zero(kind), address) {
-        return true;
-    }
-    if not_zero(span_zero(kind), size) {
-        return true;
-    }
-    not_zero(true, spare)
 }

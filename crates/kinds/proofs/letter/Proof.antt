@@ -1,10 +1,10 @@
 -- The table computes to the letters of the rows, and past it no kind has a row.
 use native.Mathlib.Omega.{arith}
 use borrow.Author.Needs.{needs}
-use Rattle.frames.specs.Kinds.{kindOf}
-use Rattle.frames.proofs.Table.{at, past}
-use Rattle.frames.proofs.tables.letter.Statement.{statement}
-use Rattle.frames.proofs.tables.letter.Tie as tie
+use Rattle.kinds.specs.Table.{kindOf}
+use Rattle.kinds.proofs.Table.{at, past}
+use Rattle.kinds.proofs.letter.Statement.{statement}
+use Rattle.kinds.proofs.letter.Tie as tie
 
 array-read-result : tie.Need-array-read-result
 array-read-result c = search needs
