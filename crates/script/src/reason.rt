@@ -1,7 +1,7 @@
 // Why a line has no frame, in words.
+use fields::Fault;
 use octets::put;
 use state::Refusal;
-use steps::Fault;
 
 // A sound line has no fault to tell, and does not come here.
 pub(crate) fn put_fault(note: &mut [u8], at: usize, fault: Fault) -> usize {

@@ -8,14 +8,15 @@ use lib.Dec.{ltb}
 use lib.ListN.{length, take, length-take}
 use Rattle.octets.proofs.Overwrite.{length-overwrite, overwrite-front}
 use Rattle.kinds.specs.Table.{kindOf, isKind}
-use Rattle.steps.specs.declared.Fault.{Fault}
-use Rattle.steps.specs.declared.Fault.the-variants.{UnknownLetter, ByteOrderMark}
-use Rattle.steps.specs.declared.Step.{Step}
-use Rattle.steps.specs.declared.Meaning.{Meaning}
-use Rattle.steps.specs.declared.Meaning.the-variants.{Nothing, Step as StepMeant, Bad}
-use Rattle.scan.specs.Scan.{wordEnd, wordAt, hasWord}
-use Rattle.steps.specs.Fields.{dataField, dataBytes}
-use Rattle.steps.specs.Line.{isSound, judged, sizeField, fieldsMean, fieldsData, stepKind, stepMeans, stepData}
+use Rattle.fields.specs.declared.Fault.{Fault}
+use Rattle.fields.specs.declared.Fault.the-variants.{UnknownLetter, ByteOrderMark}
+use Rattle.fields.specs.declared.Step.{Step}
+use Rattle.fields.specs.declared.Meaning.{Meaning}
+use Rattle.fields.specs.declared.Meaning.the-variants.{Nothing, Step as StepMeant, Bad}
+use Rattle.scan.specs.Scan.{wordAt, hasWord}
+use Rattle.fields.specs.Fields.{dataField, dataBytes}
+use Rattle.fields.specs.Meanings.{isSound, judged, sizeField, fieldsMean, fieldsData}
+use Rattle.steps.specs.Line.{stepKind, behindKind, stepMeans, stepData}
 use Rattle.steps.specs.Line.{expecting, cutOf, stepOf, textMeans, isMarked, textOf, lineMeans, lineData}
 use Rattle.steps.specs.Claims.{GivenAll, DataHanded}
 use Rattle.scan.proofs.Bytes.{bytes-length}
@@ -49,16 +50,16 @@ unfolding dataBytes dataField
 bytes-counted text at true = bytes-length (wordAt text at)
 bytes-counted text at false = refl
 
-fields-given : (text : List ℕ) (at kind : ℕ) → Given (fieldsMean text at kind) (fieldsData text at kind)
+fields-given : (text : List ℕ) (kind : ℕ) → Given (fieldsMean text kind) (fieldsData text kind)
 unfolding fieldsMean fieldsData
-fields-given text at kind step e =
-    bytes-counted text (sizeField text at kind .next) (kindOf kind .hasData) ∙ ap (λ (s : Step). s .given) (judged-step _ _ step e)
+fields-given text kind step e =
+    bytes-counted text (sizeField text kind .next) (kindOf kind .hasData) ∙ ap (λ (s : Step). s .given) (judged-step _ _ step e)
 
 step-given : (text : List ℕ) → Given (stepMeans text) (stepData text)
 unfolding stepMeans stepData
 step-given text =
     either (hasWord text 0) _ _ _ _
-    (either (isKind (stepKind text)) _ _ _ _ (fields-given text (wordEnd text 0) (stepKind text)) (bad-given UnknownLetter))
+    (either (isKind (stepKind text)) _ _ _ _ (fields-given (behindKind text) (stepKind text)) (bad-given UnknownLetter))
     nothing-given
 
 -- a step is still given the same if something is expected of it

@@ -8,8 +8,8 @@ use Rattle.state.specs.Verdict.{replied, accepted}
 use Rattle.frames.specs.Kinds.{frameSize}
 use Rattle.frames.specs.Write.{writeSays}
 use Rattle.frames.proofs.Accepted.{writable, writes}
-use Rattle.steps.specs.declared.Meaning.{Meaning}
-use Rattle.steps.specs.declared.Meaning.the-variants.{Nothing, Step as StepMeant, Bad}
+use Rattle.fields.specs.declared.Meaning.{Meaning}
+use Rattle.fields.specs.declared.Meaning.the-variants.{Nothing, Step as StepMeant, Bad}
 use Rattle.steps.specs.declared.Framed.the-variants.{Frame}
 use Rattle.steps.specs.Frame.{framedSays, dataIn, meaningSays}
 

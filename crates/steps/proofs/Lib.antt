@@ -1,4 +1,3 @@
-pub mod Places
 pub mod Fits
 pub mod Claims
 pub mod Worked

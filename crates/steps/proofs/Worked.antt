@@ -5,15 +5,16 @@ use mathlib.Core.Path.{_≡_, refl}
 use mathlib.Core.List.{List, [], _∷_, _++_, map}
 use Rattle.octets.specs.Text.{ascii}
 use Rattle.text.specs.Decimal.{readOn}
-use Rattle.steps.specs.declared.Fault.{Fault}
-use Rattle.steps.specs.declared.Fault.the-variants.{UnknownLetter, FieldMissing, NotANumber, NotHexadecimal, OddDigits, FieldTooMany}
-use Rattle.steps.specs.declared.Fault.the-variants.{ByteOrderMark, NothingExpected, NoStep}
-use Rattle.steps.specs.declared.Meaning.{Meaning}
-use Rattle.steps.specs.declared.Meaning.the-variants.{Nothing, Step as StepMeant, Bad}
+use Rattle.fields.specs.declared.Fault.{Fault}
+use Rattle.fields.specs.declared.Fault.the-variants.{UnknownLetter, FieldMissing, NotANumber, NotHexadecimal, OddDigits, FieldTooMany}
+use Rattle.fields.specs.declared.Fault.the-variants.{ByteOrderMark, NothingExpected, NoStep}
+use Rattle.fields.specs.declared.Meaning.{Meaning}
+use Rattle.fields.specs.declared.Meaning.the-variants.{Nothing, Step as StepMeant, Bad}
 use Rattle.scan.specs.Scan.{before, front, hexValue}
 use Rattle.scan.specs.Values.{bytesOf}
-use Rattle.steps.specs.Fields.{numberOf, numberField, dataFault, dataField, dataBytes, endFault}
-use Rattle.steps.specs.Line.{kindFor, kindNamed, hasSize, sizeOf, firstFault, judged, fieldsMean, fieldsData, stepMeans, stepData}
+use Rattle.fields.specs.Fields.{numberOf, numberField, dataFault, dataField, dataBytes, endFault}
+use Rattle.fields.specs.Meanings.{hasSize, sizeOf, firstFault, judged, fieldsMean, fieldsData}
+use Rattle.steps.specs.Line.{kindFor, kindNamed, stepMeans, stepData}
 use Rattle.steps.specs.Line.{textMeans, isMarked, lineMeans, lineData}
 
 abbrev step : (kind command address size given : ℕ) → Meaning

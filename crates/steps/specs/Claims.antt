@@ -4,8 +4,8 @@ use mathlib.Core.Path.{_≡_}
 use mathlib.Core.List.{List}
 use lib.ListN.{length, take}
 use Rattle.octets.specs.Lists.{overwrite}
-use Rattle.steps.specs.declared.Step.{Step}
-use Rattle.steps.specs.declared.Meaning.the-variants.{Step as StepMeant}
+use Rattle.fields.specs.declared.Step.{Step}
+use Rattle.fields.specs.declared.Meaning.the-variants.{Step as StepMeant}
 use Rattle.steps.specs.Line.{lineMeans, lineData}
 use Rattle.steps.specs.Frame.{dataIn}
 

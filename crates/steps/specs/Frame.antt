@@ -6,10 +6,10 @@ use lib.ListN.{length, take}
 use Rattle.state.specs.Refusals.{number}
 use Rattle.state.specs.Verdict.{Reply, refused, replied}
 use Rattle.frames.specs.Write.{writeSays, writeOutput}
-use Rattle.steps.specs.declared.Fault.{Fault}
-use Rattle.steps.specs.declared.Step.{Step}
-use Rattle.steps.specs.declared.Meaning.{Meaning}
-use Rattle.steps.specs.declared.Meaning.the-variants.{Nothing as NothingMeant, Step as StepMeant, Bad as BadMeant}
+use Rattle.fields.specs.declared.Fault.{Fault}
+use Rattle.fields.specs.declared.Step.{Step}
+use Rattle.fields.specs.declared.Meaning.{Meaning}
+use Rattle.fields.specs.declared.Meaning.the-variants.{Nothing as NothingMeant, Step as StepMeant, Bad as BadMeant}
 use Rattle.steps.specs.declared.Framed.{Framed}
 use Rattle.steps.specs.declared.Framed.the-variants.{Nothing, Frame, Bad, Refused}
 

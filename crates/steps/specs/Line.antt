@@ -1,20 +1,17 @@
 -- What a line means.
 use Prim.Native.Nat.{ℕ, _+_}
 use mathlib.Core.List.{List, [], _∷_}
-use mathlib.Core.Bool.{Bool, true, false, not, _&&_, _||_, cond}
+use mathlib.Core.Bool.{Bool, _||_, cond}
 use lib.Dec.{ltb, eqb}
-use lib.ListN.{length, take, getD}
-use Rattle.kinds.specs.Table.{Kind, kinds, kindOf, isKind}
+use lib.ListN.{length, take, drop, getD}
+use Rattle.kinds.specs.Table.{Kind, kinds, isKind}
 use Rattle.scan.specs.declared.Stop.the-variants.{Comment, Equals}
-use Rattle.steps.specs.declared.Fault.{Fault}
-use Rattle.steps.specs.declared.Fault.the-variants.{Sound, UnknownLetter, FieldMissing, NotANumber, NotHexadecimal, OddDigits, FieldTooMany}
-use Rattle.steps.specs.declared.Fault.the-variants.{ByteOrderMark, NothingExpected, NoStep}
-use Rattle.steps.specs.declared.Field.{Field}
-use Rattle.steps.specs.declared.Step.{Step}
-use Rattle.steps.specs.declared.Meaning.{Meaning}
-use Rattle.steps.specs.declared.Meaning.the-variants.{Nothing, Step as Steps, Bad}
+use Rattle.fields.specs.declared.Fault.the-variants.{UnknownLetter}
+use Rattle.fields.specs.declared.Fault.the-variants.{ByteOrderMark, NothingExpected, NoStep}
+use Rattle.fields.specs.declared.Meaning.{Meaning}
+use Rattle.fields.specs.declared.Meaning.the-variants.{Nothing, Step as Steps, Bad}
 use Rattle.scan.specs.Scan.{before, front, place, wordEnd, wordAt, hasWord}
-use Rattle.steps.specs.Fields.{numberField, dataField, dataBytes, endFault}
+use Rattle.fields.specs.Meanings.{fieldsMean, fieldsData}
 
 -- the kind that has a letter in the table, and 5 if none has
 unfoldable pub kindFor : ℕ → ℕ
@@ -24,81 +21,22 @@ kindFor letter = before (λ (k : Kind). eqb (k .letter) letter) kinds
 unfoldable pub kindNamed : List ℕ → ℕ
 kindNamed word = cond (eqb (length word) 1) (kindFor (getD word 0 0)) 5
 
--- a length stands in the line of a kind whose span is not zero and whose data do not say it
-unfoldable pub hasSize : ℕ → Bool
-hasSize kind = not (kindOf kind .spanZero) && not (kindOf kind .hasData)
-
--- the length of a step: that of its data, for a kind that has data
-unfoldable pub sizeOf : (kind size given : ℕ) → ℕ
-sizeOf kind size given = cond (kindOf kind .hasData) given size
-
-abbrev pub isSound : Fault → Bool
-isSound Sound = true
-isSound UnknownLetter = false
-isSound FieldMissing = false
-isSound NotANumber = false
-isSound NotHexadecimal = false
-isSound OddDigits = false
-isSound FieldTooMany = false
-isSound ByteOrderMark = false
-isSound NothingExpected = false
-isSound NoStep = false
-
--- of two faults the first, if there is one
-unfoldable pub firstFault : Fault → Fault → Fault
-firstFault one other = cond (isSound one) other one
-
-unfoldable pub judged : Fault → Step → Meaning
-judged fault step = cond (isSound fault) (Steps step) (Bad fault)
-
-module _ (text : List ℕ) (at kind : ℕ) where
-  -- the fields in their order: the command, the address, the length and the data, as far as the kind has them
-  abbrev pub commandField : Field
-  commandField = numberField text at (not (kindOf kind .commandZero))
-
-  abbrev pub addressField : Field
-  addressField = numberField text (commandField .next) (not (kindOf kind .spanZero))
-
-  abbrev pub sizeField : Field
-  sizeField = numberField text (addressField .next) (hasSize kind)
-
-  abbrev pub givenField : Field
-  givenField = dataField text (sizeField .next) (kindOf kind .hasData)
-
-  -- the first fault from the left
-  abbrev pub fieldsFault : Fault
-  fieldsFault =
-      firstFault (commandField .fault)
-      (firstFault (addressField .fault)
-      (firstFault (sizeField .fault) (firstFault (givenField .fault) (endFault text (givenField .next)))))
-
-  unfoldable pub fieldsMean : Meaning
-  fieldsMean =
-      judged fieldsFault
-      (record {
-        kind = kind;
-        command = commandField .value;
-        address = addressField .value;
-        size = sizeOf kind (sizeField .value) (givenField .value);
-        given = givenField .value;
-      })
-
-  -- the bytes of the data
-  unfoldable pub fieldsData : List ℕ
-  fieldsData = dataBytes text (sizeField .next) (kindOf kind .hasData)
-
 -- the kind that the first word names
 abbrev pub stepKind : List ℕ → ℕ
 stepKind text = kindNamed (wordAt text 0)
 
+-- what stands behind that word, its fields
+abbrev pub behindKind : List ℕ → List ℕ
+behindKind text = drop (wordEnd text 0) text
+
 -- what stands before `=` and the comment: Nothing if it has no word; a fault if its first word names no kind; else what its fields mean
 unfoldable pub stepMeans : List ℕ → Meaning
 stepMeans text =
-    cond (hasWord text 0) (cond (isKind (stepKind text)) (fieldsMean text (wordEnd text 0) (stepKind text)) (Bad UnknownLetter)) Nothing
+    cond (hasWord text 0) (cond (isKind (stepKind text)) (fieldsMean (behindKind text) (stepKind text)) (Bad UnknownLetter)) Nothing
 
 -- its data, of which there are none where it has no fields
 unfoldable pub stepData : List ℕ → List ℕ
-stepData text = cond (hasWord text 0) (cond (isKind (stepKind text)) (fieldsData text (wordEnd text 0) (stepKind text)) []) []
+stepData text = cond (hasWord text 0) (cond (isKind (stepKind text)) (fieldsData (behindKind text) (stepKind text)) []) []
 
 -- what a step means that `=` stands behind, with something behind that or not
 abbrev pub expecting : (something : Bool) → Meaning → Meaning

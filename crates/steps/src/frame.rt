@@ -1,8 +1,8 @@
 // The frame of a line.
 use crate::Framed;
-use crate::Meaning;
-use crate::Step;
 use crate::line::parse;
+use fields::Meaning;
+use fields::Step;
 use frames::WriteAnswer;
 use octets::lesser;
 ghost use mathlib.Core.Path.{_≡_};
