@@ -9,3 +9,4 @@ pub use judging::Judgement;
 pub use judging::MOST;
 pub use judging::judge;
 pub use judging::room;
+pub use reporting::say_bad;

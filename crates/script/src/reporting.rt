@@ -1,4 +1,4 @@
-// A line that is no step is reported on standard error.
+// What is said on standard error of lines that are no steps.
 use crate::reason::put_fault;
 use crate::reason::put_refusal;
 use octets::put;
@@ -42,4 +42,17 @@ pub(crate) fn report(program: &[u8], number: usize, line: &[u8], framed: Framed)
         Framed::Refused(refusal) => say_refusal(program, number, line, refusal),
         _ => {}
     }
+}
+
+// What is said last where lines are bad: how many, and what is not done. Before it stands a hint, where the input is no text.
+pub fn say_bad(program: &[u8], input: &[u8], bad: usize, hint: &[u8], undone: &[u8]) {
+    if !console::looks_like_text(input) {
+        console::say_text(hint);
+    }
+    let mut note = [0u8; console::NOTE];
+    let next = put(&mut note, 0, program);
+    let next = put(&mut note, next, b": ");
+    let next = console::put_count(&mut note, next, bad, b"bad line");
+    let next = put(&mut note, next, undone);
+    console::say(&note, next);
 }
