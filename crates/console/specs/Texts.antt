@@ -2,14 +2,14 @@
 use Prim.Native.Nat.{ℕ}
 use Prim.Native.Char.{code}
 use mathlib.Core.List.{List}
-use mathlib.Core.Bool.{Bool, _&&_, _||_, cond}
+use mathlib.Core.Bool.{Bool, not, _&&_, _||_, cond}
 use lib.Dec.{leb, eqb}
 use lib.ListN.{getD}
 use Rattle.octets.specs.Lists.{all}
 
--- a tab, the two bytes that end a line, and the printable characters of ASCII
+-- a tab, the two bytes that end a line, the printable characters of ASCII, and the bytes of characters beyond ASCII
 abbrev pub isText : ℕ → Bool
-isText byte = eqb byte 9 || (eqb byte 10 || (eqb byte 13 || (leb (code " ") byte && leb byte (code "~"))))
+isText byte = eqb byte 9 || (eqb byte 10 || (eqb byte 13 || (leb (code " ") byte && not (eqb byte 0x7f))))
 
 -- the first bytes of a text that says in which order its bytes stand: in UTF-16, one way or the other, or in UTF-8
 abbrev pub isMark : ℕ → ℕ → ℕ → Bool

@@ -3,6 +3,8 @@ use crate::quoting::quote;
 use crate::saying::NOTE;
 use crate::saying::say;
 use crate::saying::say_failed;
+use crate::saying::say_text;
+use crate::saying::tell;
 use crate::saying::within;
 use libc::PATH_MAX;
 use libc::STDIN_FILENO;
@@ -12,14 +14,10 @@ use octets::put;
 const NAME: usize = PATH_MAX - 1;
 
 pub enum Asked {
-    Help,
-    Version,
     // the descriptor to read
     Input(i32),
-    // not as the usage has it; what is wrong has been said
-    Wrong,
-    // an input that cannot be had; why has been said
-    Failed,
+    // nothing more: what was asked has been told, or what is wrong has been said
+    Done,
 }
 
 // Are they the same bytes?
@@ -45,42 +43,54 @@ pub fn is(i: usize, word: &[u8]) -> bool {
 }
 
 // Argument i and those behind it: a file name, or one of the two words that every program knows.
-pub fn arguments(program: &[u8], i: usize) -> Asked {
+pub fn arguments(program: &[u8], i: usize, usage: &[u8]) -> Asked {
     let count = os::arg_count();
     if count <= i {
         return Asked::Input(STDIN_FILENO);
     }
     if is(i, b"--help") {
-        return Asked::Help;
+        tell(program, usage);
+        return Asked::Done;
     }
     if is(i, b"--version") {
-        return Asked::Version;
+        tell_version(program);
+        return Asked::Done;
     }
     let mut name = [0u8; NAME];
     let n = os::arg(i, &mut name);
     if os::errno() != 0 {
         say_wrong(program, b"the file name is too long", b"");
-        return Asked::Failed;
+        return Asked::Done;
     }
     if count - i > 1 {
         say_wrong(program, b"one file at most", b"");
-        return Asked::Wrong;
+        say_text(usage);
+        return Asked::Done;
     }
-    input(program, &name[..n])
+    input(program, &name[..n], usage)
 }
 
-fn input(program: &[u8], name: &[u8]) -> Asked {
+fn tell_version(program: &[u8]) {
+    let mut text = [0u8; NOTE];
+    let next = put(&mut text, 0, program);
+    let next = put(&mut text, next, b" 1.0\n");
+    let n = within(&text, next);
+    tell(program, &text[..n]);
+}
+
+fn input(program: &[u8], name: &[u8], usage: &[u8]) -> Asked {
     if same(name, b"-") {
         return Asked::Input(STDIN_FILENO);
     }
     if is_option(name) {
         say_wrong(program, b"unknown option ", name);
-        return Asked::Wrong;
+        say_text(usage);
+        return Asked::Done;
     }
     let fd = os::open_read(name);
     if fd < 0 {
         say_unopened(program, name);
-        return Asked::Failed;
+        return Asked::Done;
     }
     Asked::Input(fd)
 }

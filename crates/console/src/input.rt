@@ -2,6 +2,7 @@
 ghost use Prim.Native.Nat.{_≤_};
 ghost use lib.ListN.{length};
 ghost use Rattle.io.specs.Counts.{Counts};
+use crate::saying::say_unread;
 
 // How many bytes were read to the front of the buffer, and whether no read failed.
 pub struct Reading {
@@ -16,14 +17,15 @@ fn read_more(fd: i32, buffer: &mut [u8], done: usize) -> isize
     libc::read(fd, &mut buffer[done..])
 }
 
-// Reads until the buffer is full or the input ends.
-pub fn read_whole(fd: i32, buffer: &mut [u8]) -> Reading
+// Reads until the buffer is full or the input ends. That a read failed is said.
+pub fn read_whole(program: &[u8], fd: i32, buffer: &mut [u8]) -> Reading
     ensures { λ r. ⌜ Counts (r .count) (now (buffer .exit)) ⌝ }
 {
     let mut done = 0;
     while done < buffer.len() {
         let got = read_more(fd, buffer, done);
         if got < 0 {
+            say_unread(program);
             return Reading {
                 count: done,
                 whole: false,

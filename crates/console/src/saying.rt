@@ -39,17 +39,24 @@ pub(crate) fn say_failed(program: &[u8], what: &[u8]) {
     os::fail(&note[..n]);
 }
 
-pub fn say_lost(program: &[u8]) {
-    say_failed(program, b"standard output cannot be written");
-}
-
-pub fn say_unread(program: &[u8]) {
+pub(crate) fn say_unread(program: &[u8]) {
     say_failed(program, b"the input cannot be read");
 }
 
-// A text on standard output, or that it cannot be written.
-pub fn tell(program: &[u8], text: &[u8]) {
-    if !io::write_all(STDOUT_FILENO, text) {
-        say_lost(program);
+// A text on standard output. Tells whether it was written; that it could not be is said at once, while the system still knows why.
+pub fn tell(program: &[u8], text: &[u8]) -> bool {
+    let done = io::write_all(STDOUT_FILENO, text);
+    if !done {
+        say_failed(program, b"standard output cannot be written");
     }
+    done
+}
+
+// The first n bytes of a text, if they are wanted.
+pub fn tell_if(wanted: bool, program: &[u8], text: &[u8], n: usize) -> bool {
+    if !wanted {
+        return false;
+    }
+    let n = within(text, n);
+    tell(program, &text[..n])
 }

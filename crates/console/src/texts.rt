@@ -1,10 +1,10 @@
-// Does an input look like text, though frames are wanted?
+// Does an input look like text? Steps do, and frames do not.
 ghost use mathlib.Core.Path.{_≡_};
 ghost use lib.ListN.{getD};
 ghost use Rattle.octets.specs.Lists.{all};
 ghost use Rattle.console.specs.Texts.{isText, isMark, looksLikeText};
 
-// A printable character of ASCII, a tab or the end of a line.
+// A tab, the end of a line, a printable character of ASCII, or a byte of a character beyond ASCII.
 fn is_text(byte: u8) -> bool
     ensures { λ r. ⌜ r ≡ isText byte ⌝ }
 {
@@ -20,7 +20,7 @@ fn is_text(byte: u8) -> bool
     if byte < b' ' {
         return false;
     }
-    byte <= b'~'
+    byte != 0x7f
 }
 
 fn is_all_text(bytes: &[u8]) -> bool

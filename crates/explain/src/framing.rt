@@ -1,4 +1,4 @@
-// One frame, carried out and explained.
+// What was read of a frame and what came of it, in words.
 use crate::wording::put_asked;
 use crate::wording::put_done;
 use crate::wording::put_refused;
@@ -8,16 +8,7 @@ use log::Answer;
 use octets::put;
 use state::CacheState;
 
-// How many bytes the frame took up (none if it is unreadable), whether it was accepted, the place behind its words, and how long its line
-// in the log is.
-pub(crate) struct Explained {
-    pub taken: usize,
-    pub accepted: bool,
-    pub next: usize,
-    pub logged: usize,
-}
-
-fn is_accepted(answer: Answer) -> bool {
+pub(crate) fn is_accepted(answer: Answer) -> bool {
     match answer {
         Answer::Refused(_) => false,
         _ => true,
@@ -41,8 +32,8 @@ fn put_step(
     put_done(line, next, step, answer, data, before, state, delivered)
 }
 
-// What was read of a frame, and what came of it, in words.
-fn put_words(
+// The state is given as it was before the frame, and as it is.
+pub(crate) fn put_words(
     line: &mut [u8],
     at: usize,
     frame: &[u8],
@@ -61,30 +52,5 @@ fn put_words(
             let data = frames::data(frame, parsed.consumed);
             put_step(line, at, step, answer, data, before, state, delivered)
         }
-    }
-}
-
-// The words go into the line from `at` on, and what the log prints of the frame to the front of the other buffer.
-pub(crate) fn explain_frame(
-    number: usize,
-    frame: &[u8],
-    state: &mut [u16; CacheState::WORDS],
-    store: &mut [u8],
-    window: &mut [u8],
-    destination: &mut [u8],
-    line: &mut [u8],
-    at: usize,
-    text: &mut [u8],
-) -> Explained {
-    let before = *state;
-    let carried = device::carry_out(frame, state, store, window, destination);
-    let answer = carried.answer;
-    let n = console::within(destination, carried.delivered);
-    let delivered = &destination[..n];
-    Explained {
-        taken: carried.taken,
-        accepted: is_accepted(answer),
-        next: put_words(line, at, frame, answer, &before, state, delivered),
-        logged: log::put_line(text, 0, number, carried.letter, answer, delivered),
     }
 }

@@ -1,7 +1,7 @@
 // Carries out frames, or steps as lines, and says of each in words what it did. Holds what the lines expect against what came.
 use console::Asked;
-use libc::STDERR_FILENO;
-use libc::STDOUT_FILENO;
+use octets::minus;
+use octets::one_if;
 use octets::put;
 use run::Tally;
 use script::Judgement;
@@ -14,33 +14,17 @@ mod unit;
 mod wording;
 
 fn main() {
-    if console::is(1, b"--frames") {
-        ask(2, false);
-    } else {
-        ask(1, true);
+    let frames = console::is(1, b"--frames");
+    if let Asked::Input(fd) = ask(1 + one_if(frames)) {
+        read(fd, frames);
     }
 }
 
-// The arguments from the first on; a line is a step, or the input is frames.
-fn ask(first: usize, by_lines: bool) {
-    match console::arguments(b"explain", first) {
-        Asked::Input(fd) => read(fd, by_lines),
-        Asked::Version => console::tell(b"explain", b"explain 1.0\n"),
-        Asked::Help => {
-            if !usage(STDOUT_FILENO) {
-                console::say_lost(b"explain");
-            }
-        }
-        Asked::Wrong => {
-            usage(STDERR_FILENO);
-        }
-        Asked::Failed => {}
-    }
-}
-
-fn usage(fd: i32) -> bool {
-    io::write_all(
-        fd,
+// The arguments from the first on.
+fn ask(first: usize) -> Asked {
+    console::arguments(
+        b"explain",
+        first,
         b"usage: explain [STEPS]\n\
         \x20      explain --frames [FRAMES]\n\
         \x20      explain --help | --version\n\
@@ -66,18 +50,21 @@ fn usage(fd: i32) -> bool {
     )
 }
 
-fn read(fd: i32, by_lines: bool) {
+// The input is frames, or a line of it is a step.
+fn read(fd: i32, frames: bool) {
     let mut input = script::room();
-    let reading = console::read_whole(fd, &mut input);
-    if !reading.whole {
-        console::say_unread(b"explain");
-        return;
+    let reading = console::read_whole(b"explain", fd, &mut input);
+    if reading.whole {
+        let n = reading.count;
+        run_all(&input[..n], frames);
     }
-    let n = reading.count;
-    if by_lines {
-        run_steps(&input[..n]);
+}
+
+fn run_all(input: &[u8], frames: bool) {
+    if frames {
+        run_frames(input);
     } else {
-        run_frames(&input[..n]);
+        run_steps(input);
     }
 }
 
@@ -108,7 +95,7 @@ fn run_steps(input: &[u8]) {
         }
         Judgement::Lines(judged) => {
             if 0 < judged.bad {
-                say_bad(judged.bad);
+                say_bad(input, judged.bad);
             } else {
                 sum_up(run::explain(true, input));
             }
@@ -116,12 +103,19 @@ fn run_steps(input: &[u8]) {
     }
 }
 
-fn say_bad(bad: usize) {
-    let mut note = [0u8; console::NOTE];
-    let next = put(&mut note, 0, b"explain: ");
-    let next = console::put_count(&mut note, next, bad, b"bad line");
-    let next = put(&mut note, next, b", nothing is run\n");
-    console::say(&note, next);
+fn say_bad(input: &[u8], bad: usize) {
+    script::say_bad(
+        b"explain",
+        input,
+        bad,
+        b"explain: the input looks like frames; give --frames\n",
+        b", nothing is run\n",
+    );
+}
+
+// The frames that a call refused.
+fn refused(tally: Tally) -> usize {
+    minus(minus(tally.frames, tally.carried), one_if(tally.early))
 }
 
 // The last line on standard error.
@@ -133,7 +127,7 @@ fn sum_up(tally: Tally) {
         next,
         tally.frames,
         tally.carried,
-        tally.refused,
+        refused(tally),
         tally.early,
     );
     let next = put_expected(&mut note, next, tally.held, tally.failed);

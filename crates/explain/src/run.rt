@@ -3,12 +3,12 @@ ghost use Prim.Native.Nat.{_≤_, _<_};
 ghost use lib.ListN.{length};
 use crate::checking::Met;
 use crate::checking::check;
-use crate::framing::explain_frame;
+use crate::framing::is_accepted;
+use crate::framing::put_words;
 use crate::unit::Unit;
 use crate::unit::line_end;
 use crate::unit::next_frame;
 use crate::unit::next_line;
-use libc::STDOUT_FILENO;
 use octets::greater;
 use octets::lesser;
 use octets::minus;
@@ -20,18 +20,14 @@ use state::CacheState;
 const WINDOW: usize = 16384;
 
 // Room for the longest line of words: 300 bytes before the words, 65 parts of fresh and 64 of replayed bytes with 24 characters each around
-// their bytes, 8,192 digits, and 64 records of 12 characters.
+// their bytes, 8,192 digits, and 64 records of 12 characters. No line of the log is as long.
 const LINE: usize = 16384;
 
-// Room for the longest line of the log.
-const LOGGED: usize = 8448;
-
-// How many frames there were, how many of them were carried out and how many a call refused, whether an unreadable one ended the run, how
-// many lines were written before the first that was not, and how many expectations held and failed.
+// How many frames there were and how many of them were carried out, whether an unreadable one ended the run, how many lines were written
+// before the first that was not, and how many expectations held and failed.
 pub(crate) struct Tally {
     pub frames: usize,
     pub carried: usize,
-    pub refused: usize,
     pub early: bool,
     pub kept: usize,
     pub held: usize,
@@ -40,16 +36,8 @@ pub(crate) struct Tally {
 
 // The line ends at a place, and is written if it is wanted. Tells whether it was.
 fn write(line: &mut [u8], at: usize, wanted: bool) -> bool {
-    if !wanted {
-        return false;
-    }
     let next = put(line, at, b"\n");
-    let n = console::within(line, next);
-    let done = io::write_all(STDOUT_FILENO, &line[..n]);
-    if !done {
-        console::say_lost(b"explain");
-    }
-    done
+    console::tell_if(wanted, b"explain", line, next)
 }
 
 // What is left of the input, as a frame or as a line of steps.
@@ -156,7 +144,7 @@ fn has_failed(met: Met) -> bool {
     }
 }
 
-// A frame whose line has begun.
+// A frame whose line has begun. What the log prints of it takes the place of the line, once that is written.
 fn tell_frame(
     by_lines: bool,
     number: usize,
@@ -169,32 +157,28 @@ fn tell_frame(
     destination: &mut [u8],
     line: &mut [u8],
     at: usize,
-    text: &mut [u8],
     wanted: bool,
 ) -> Told {
-    let r = explain_frame(
-        number,
-        frame,
-        state,
-        store,
-        window,
-        destination,
-        line,
-        at,
-        text,
-    );
-    let kept = write(line, r.next, wanted);
-    let met = met(by_lines, place, rest, text, r.logged);
+    let before = *state;
+    let carried = device::carry_out(frame, state, store, window, destination);
+    let answer = carried.answer;
+    let n = console::within(destination, carried.delivered);
+    let delivered = &destination[..n];
+    let next = put_words(line, at, frame, answer, &before, state, delivered);
+    let kept = write(line, next, wanted);
+    let logged = log::put_line(line, 0, number, carried.letter, answer, delivered);
+    let met = met(by_lines, place, rest, line, logged);
     Told {
         there: true,
-        taken: r.taken,
-        accepted: r.accepted,
+        taken: carried.taken,
+        accepted: is_accepted(answer),
         kept,
         held: has_held(met),
         failed: has_failed(met),
     }
 }
 
+// What is left of the input begins with a unit. Its frame's data pass through the destination.
 fn tell(
     by_lines: bool,
     number: usize,
@@ -204,13 +188,11 @@ fn tell(
     store: &mut [u8],
     window: &mut [u8],
     destination: &mut [u8],
-    buffer: &mut [u8],
     frame: &mut [u8],
     line: &mut [u8],
-    text: &mut [u8],
     wanted: bool,
 ) -> Told {
-    let unit = next_unit(by_lines, number, place, rest, buffer, frame, line);
+    let unit = next_unit(by_lines, number, place, rest, destination, frame, line);
     if unit.size == 0 {
         return nothing();
     }
@@ -227,9 +209,31 @@ fn tell(
         destination,
         line,
         unit.at,
-        text,
         wanted,
     )
+}
+
+// One unit more.
+fn add(tally: Tally, told: Told) -> Tally {
+    Tally {
+        frames: count(tally.frames, told.there),
+        carried: count(tally.carried, told.accepted),
+        early: is_end(told),
+        kept: count(tally.kept, told.kept),
+        held: count(tally.held, told.held),
+        failed: count(tally.failed, told.failed),
+    }
+}
+
+fn none() -> Tally {
+    Tally {
+        frames: 0,
+        carried: 0,
+        early: false,
+        kept: 0,
+        held: 0,
+        failed: 0,
+    }
 }
 
 pub(crate) fn explain(by_lines: bool, input: &[u8]) -> Tally {
@@ -237,53 +241,31 @@ pub(crate) fn explain(by_lines: bool, input: &[u8]) -> Tally {
     let mut store = [0u8; CacheState::STORE];
     let mut window = [0u8; WINDOW];
     let mut destination = [0u8; CacheState::TRANSFER];
-    let mut buffer = [0u8; CacheState::TRANSFER];
     let mut frame = [0u8; script::FRAME];
     let mut line = [0u8; LINE];
-    let mut text = [0u8; LOGGED];
-    let mut frames = 0;
-    let mut carried = 0;
-    let mut kept = 0;
-    let mut held = 0;
-    let mut failed = 0;
-    let mut early = false;
+    let mut tally = none();
     let mut place = 0;
     let mut at = 0;
     while at < input.len() {
         place = count(place, true);
         let told = tell(
             by_lines,
-            count(frames, true),
+            count(tally.frames, true),
             place,
             &input[at..],
             &mut state.words,
             &mut store,
             &mut window,
             &mut destination,
-            &mut buffer,
             &mut frame,
             &mut line,
-            &mut text,
-            kept == frames,
+            tally.kept == tally.frames,
         );
-        frames = count(frames, told.there);
-        carried = count(carried, told.accepted);
-        kept = count(kept, told.kept);
-        held = count(held, told.held);
-        failed = count(failed, told.failed);
-        if is_end(told) {
-            early = true;
+        tally = add(tally, told);
+        if tally.early {
             break;
         }
         at = behind(by_lines, input, at, told.taken);
     }
-    Tally {
-        frames,
-        carried,
-        refused: minus(minus(frames, carried), one_if(early)),
-        early,
-        kept,
-        held,
-        failed,
-    }
+    tally
 }

@@ -1,7 +1,5 @@
 // Reads a journal of frames, and prints its log: a line for each frame, up to the first that is unreadable.
 use console::Asked;
-use libc::STDERR_FILENO;
-use libc::STDOUT_FILENO;
 use octets::put;
 use printing::LINE;
 use printing::Printed;
@@ -16,24 +14,15 @@ const INPUT: usize = journal::MOST + 1;
 const WINDOW: usize = 16384;
 
 fn main() {
-    match console::arguments(b"fetchlog", 1) {
-        Asked::Input(fd) => run(fd),
-        Asked::Version => console::tell(b"fetchlog", b"fetchlog 1.0\n"),
-        Asked::Help => {
-            if !usage(STDOUT_FILENO) {
-                console::say_lost(b"fetchlog");
-            }
-        }
-        Asked::Wrong => {
-            usage(STDERR_FILENO);
-        }
-        Asked::Failed => {}
+    if let Asked::Input(fd) = ask() {
+        run(fd);
     }
 }
 
-fn usage(fd: i32) -> bool {
-    io::write_all(
-        fd,
+fn ask() -> Asked {
+    console::arguments(
+        b"fetchlog",
+        1,
         b"usage: fetchlog [FRAMES] > LOG\n\
         \x20      fetchlog --help | --version\n\
         \n\
@@ -54,17 +43,19 @@ fn usage(fd: i32) -> bool {
 
 fn run(fd: i32) {
     let mut input = [0u8; INPUT];
-    let reading = console::read_whole(fd, &mut input);
-    if !reading.whole {
-        console::say_unread(b"fetchlog");
-        return;
+    let reading = console::read_whole(b"fetchlog", fd, &mut input);
+    if reading.whole {
+        let n = reading.count;
+        run_all(&input[..n]);
     }
-    let n = reading.count;
-    if n > journal::MOST {
-        refuse(&input[..n]);
-        return;
+}
+
+fn run_all(input: &[u8]) {
+    if input.len() > journal::MOST {
+        refuse(input);
+    } else {
+        print(input);
     }
-    print(&input[..n]);
 }
 
 // What document 01 (the agreed scope; docs/RULES.md has its rules) prints for an input that is too long.

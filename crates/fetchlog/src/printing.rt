@@ -1,9 +1,9 @@
 // A journal is run. The line of each frame is made whole at the front of a buffer and written to standard output.
 ghost use mathlib.Core.Path.{_≡_};
+ghost use Prim.Native.Nat.{_+_, _-_, _≤_, _<_, _^_};
 ghost use lib.ListN.{length};
 ghost use Rattle.device.specs.Step.{deviceOf};
 ghost use Rattle.fetchlog.specs.Print.{Shows, Prints};
-use libc::STDOUT_FILENO;
 use octets::one_if;
 use state::CacheState;
 
@@ -29,20 +29,6 @@ pub struct Printed {
     pub kept: usize,
 }
 
-// The first n bytes of a line are written, if they are wanted. Tells whether they were; that they could not be is said at once, while the
-// system still knows why.
-fn write(line: &[u8], n: usize, wanted: bool) -> bool {
-    if !wanted {
-        return false;
-    }
-    let n = console::within(line, n);
-    let done = io::write_all(STDOUT_FILENO, &line[..n]);
-    if !done {
-        console::say_lost(b"fetchlog");
-    }
-    done
-}
-
 fn print_frame(
     number: usize,
     frame: &[u8],
@@ -62,7 +48,21 @@ fn print_frame(
         taken: logged.taken,
         accepted: logged.accepted,
         size,
-        kept: write(line, size, wanted),
+        kept: console::tell_if(wanted, b"fetchlog", line, size),
+    }
+}
+
+// How a run went in which so many frames were read; an unreadable one may have ended it.
+fn summed(read: usize, carried: usize, early: bool, kept: usize) -> Printed
+    requires { ⌜ (carried ≤ read) × (read + 1 < 2 ^ 64) ⌝ }
+    ensures { λ r. ⌜ (r .carried ≡ carried) × (r .refused ≡ read - carried) × (r .early ≡ early) ⌝ }
+{
+    Printed {
+        frames: read + one_if(early),
+        carried,
+        refused: read - carried,
+        early,
+        kept,
     }
 }
 
@@ -96,23 +96,11 @@ pub(crate) fn print_log(
         kept = kept + one_if(r.kept);
         let taken = r.taken;
         if taken == 0 {
-            return Printed {
-                frames: number + 1,
-                carried,
-                refused: number - carried,
-                early: true,
-                kept,
-            };
+            return summed(number, carried, true, kept);
         }
         carried = carried + one_if(r.accepted);
         number = number + 1;
         at = at + taken;
     }
-    Printed {
-        frames: number,
-        carried,
-        refused: number - carried,
-        early: false,
-        kept,
-    }
+    summed(number, carried, false, kept)
 }

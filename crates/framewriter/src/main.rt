@@ -1,7 +1,5 @@
 // Reads steps, one a line, and writes their frames. All lines are judged first: if one of them has no frame, nothing is written.
 use console::Asked;
-use libc::STDERR_FILENO;
-use libc::STDOUT_FILENO;
 use octets::one_if;
 use octets::put;
 use scan::Stop;
@@ -14,24 +12,15 @@ use steps::Framed;
 const JOURNAL: usize = 32768;
 
 fn main() {
-    match console::arguments(b"framewriter", 1) {
-        Asked::Input(fd) => run(fd),
-        Asked::Version => console::tell(b"framewriter", b"framewriter 1.0\n"),
-        Asked::Help => {
-            if !usage(STDOUT_FILENO) {
-                console::say_lost(b"framewriter");
-            }
-        }
-        Asked::Wrong => {
-            usage(STDERR_FILENO);
-        }
-        Asked::Failed => {}
+    if let Asked::Input(fd) = ask() {
+        run(fd);
     }
 }
 
-fn usage(fd: i32) -> bool {
-    io::write_all(
-        fd,
+fn ask() -> Asked {
+    console::arguments(
+        b"framewriter",
+        1,
         b"usage: framewriter [STEPS] > FRAMES\n\
         \x20      framewriter --help | --version\n\
         \n\
@@ -61,13 +50,11 @@ fn usage(fd: i32) -> bool {
 
 fn run(fd: i32) {
     let mut input = script::room();
-    let reading = console::read_whole(fd, &mut input);
-    if !reading.whole {
-        console::say_unread(b"framewriter");
-        return;
+    let reading = console::read_whole(b"framewriter", fd, &mut input);
+    if reading.whole {
+        let n = reading.count;
+        write(&input[..n]);
     }
-    let n = reading.count;
-    write(&input[..n]);
 }
 
 fn write(input: &[u8]) {
@@ -79,7 +66,7 @@ fn write(input: &[u8]) {
         }
         Judgement::Lines(judged) => {
             if 0 < judged.bad {
-                say_bad(judged.bad);
+                say_bad(input, judged.bad);
             } else {
                 let kept = write_frames(input);
                 sum_up(judged, kept);
@@ -88,12 +75,14 @@ fn write(input: &[u8]) {
     }
 }
 
-fn say_bad(bad: usize) {
-    let mut note = [0u8; console::NOTE];
-    let next = put(&mut note, 0, b"framewriter: ");
-    let next = console::put_count(&mut note, next, bad, b"bad line");
-    let next = put(&mut note, next, b", nothing is written\n");
-    console::say(&note, next);
+fn say_bad(input: &[u8], bad: usize) {
+    script::say_bad(
+        b"framewriter",
+        input,
+        bad,
+        b"framewriter: the input looks like frames; fetchlog runs frames\n",
+        b", nothing is written\n",
+    );
 }
 
 // What became of a line: whether it had a frame that was written, and whether it had one that could not be.
@@ -102,19 +91,11 @@ struct Written {
     lost: bool,
 }
 
-fn put_out(frame: &[u8]) -> Written {
-    let kept = io::write_all(STDOUT_FILENO, frame);
-    if !kept {
-        console::say_lost(b"framewriter");
-    }
-    Written { kept, lost: !kept }
-}
-
 fn write_frame(line: &[u8], buffer: &mut [u8], frame: &mut [u8]) -> Written {
     match steps::frame_of(line, buffer, frame) {
         Framed::Frame(size) => {
-            let n = console::within(frame, size);
-            put_out(&frame[..n])
+            let kept = console::tell_if(true, b"framewriter", frame, size);
+            Written { kept, lost: !kept }
         }
         _ => Written {
             kept: false,

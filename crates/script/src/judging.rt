@@ -1,11 +1,10 @@
 // The lines of a file, judged one after the other.
 ghost use mathlib.Core.Path.{_≡_};
 ghost use Prim.Native.Nat.{_≤_};
-ghost use lib.ListN.{length};
-use crate::reason::put_fault;
-use crate::reason::put_refusal;
-use octets::one_if;
-use octets::put;
+ghost use lib.ListN.{length, replicate};
+ghost use Rattle.steps.specs.Frame.{framedSays};
+ghost use Rattle.script.specs.Judging.{lineSays, judged, counts, judgedOf, judgement};
+use crate::reporting::report;
 use scan::Stop;
 use state::CacheState;
 use steps::Framed;
@@ -19,9 +18,9 @@ const INPUT: usize = MOST + 1;
 // Room for the longest frame.
 pub const FRAME: usize = CacheState::TRANSFER + 5;
 
-// Room for an input. The contract gives the length alone, which is all that the caller needs.
+// Room for an input.
 pub fn room() -> [u8; INPUT]
-    ensures { λ r. ⌜ length r ≡ 1048577 ⌝ }
+    ensures { λ r. ⌜ r ≡ replicate 1048577 0 ⌝ }
 {
     [0u8; INPUT]
 }
@@ -38,60 +37,42 @@ pub enum Judgement {
     Lines(Judged),
 }
 
-// What one line is: bad, or a frame of so many bytes, which are none for a blank line.
-struct Line {
-    bad: bool,
-    size: usize,
+fn tally(bad: usize, frames: usize, bytes: usize) -> Judged
+    ensures { λ r. ⌜ r ≡ judged bad frames bytes ⌝ }
+{
+    Judged { bad, frames, bytes }
 }
 
-// Where in a message the reason stands: behind the program and the number of the line.
-fn put_place(note: &mut [u8], program: &[u8], number: usize) -> usize {
-    let next = put(note, 0, program);
-    let next = put(note, next, b": line ");
-    let next = text::put_decimal(note, next, number);
-    put(note, next, b": ")
+// What a line counts for.
+fn counts(framed: Framed) -> Judged
+    ensures { λ r. ⌜ r ≡ counts (framedSays framed) ⌝ }
+{
+    match framed {
+        Framed::Nothing => tally(0, 0, 0),
+        Framed::Frame(size) => tally(0, 1, size),
+        Framed::Bad(_) => tally(1, 0, 0),
+        Framed::Refused(_) => tally(1, 0, 0),
+    }
 }
 
-fn say_line(note: &mut [u8], at: usize, line: &[u8]) {
-    let next = put(note, at, b": ");
-    let next = console::quote(note, next, line);
-    let next = put(note, next, b"\n");
-    console::say(note, next);
-}
-
-// A bad line is reported.
 fn judge_line(
     program: &[u8],
     number: usize,
     line: &[u8],
     buffer: &mut [u8],
     frame: &mut [u8],
-) -> Line
-    ensures { λ r. ⌜ r .size ≤ length (now (frame .entry)) ⌝ }
+) -> Judged
+    requires { ⌜ (length (now buffer) ≡ 4096) × (length (now frame) ≡ 4101) ⌝ }
+    ensures { λ r. ⌜ r ≡ counts (lineSays (now (line .entry))) ⌝ }
 {
-    let mut note = [0u8; console::NOTE];
-    let place = put_place(&mut note, program, number);
-    match steps::frame_of(line, buffer, frame) {
-        Framed::Nothing => Line {
-            bad: false,
-            size: 0,
-        },
-        Framed::Frame(size) => Line { bad: false, size },
-        Framed::Bad(fault) => {
-            let next = put_fault(&mut note, place, fault);
-            say_line(&mut note, next, line);
-            Line { bad: true, size: 0 }
-        }
-        Framed::Refused(refusal) => {
-            let next = put_refusal(&mut note, place, refusal);
-            say_line(&mut note, next, line);
-            Line { bad: true, size: 0 }
-        }
-    }
+    let framed = steps::frame_of(line, buffer, frame);
+    report(program, number, line, framed);
+    counts(framed)
 }
 
 fn judge_lines(program: &[u8], input: &[u8]) -> Judged
     requires { ⌜ length (now input) ≤ 1048576 ⌝ }
+    ensures { λ r. ⌜ r ≡ judgedOf (now (input .entry)) ⌝ }
 {
     let mut buffer = [0u8; CacheState::TRANSFER];
     let mut frame = [0u8; FRAME];
@@ -104,16 +85,18 @@ fn judge_lines(program: &[u8], input: &[u8]) -> Judged
         let end = scan::until(input, at, Stop::LineEnd);
         number += 1;
         let line = judge_line(program, number, &input[at..end], &mut buffer, &mut frame);
-        bad += one_if(line.bad);
-        frames += one_if(0 < line.size);
-        bytes += line.size;
+        bad += line.bad;
+        frames += line.frames;
+        bytes += line.bytes;
         at = end + 1;
     }
     Judged { bad, frames, bytes }
 }
 
 // A file that is too long is not looked at.
-pub fn judge(program: &[u8], input: &[u8]) -> Judgement {
+pub fn judge(program: &[u8], input: &[u8]) -> Judgement
+    ensures { λ r. ⌜ r ≡ judgement (now (input .entry)) ⌝ }
+{
     if MOST < input.len() {
         return Judgement::TooLong;
     }

@@ -11,15 +11,27 @@ const MARKS: [&[u8]; 3] = [b"\xef\xbb\xbf", b"\xff\xfe", b"\xfe\xff"];
 /// All that must be said.
 pub fn said(input: &[u8], log: &[u8]) -> String {
     if input.len() > INPUT_BYTES {
-        return format!("fetchlog: the input is above {INPUT_BYTES} bytes, no frame is run\n");
+        let hint = hint(input);
+        return format!(
+            "{hint}fetchlog: the input is above {INPUT_BYTES} bytes, no frame is run\n"
+        );
     }
     let counts = Counts::of_log(log);
-    let hint = if counts.unreadable > 0 && is_text(input) {
-        "fetchlog: the input looks like steps; framewriter makes frames of steps\n"
+    let hint = if counts.unreadable > 0 {
+        hint(input)
     } else {
         ""
     };
     format!("{hint}fetchlog: {counts}\n")
+}
+
+/// What is said of an input that may be steps.
+fn hint(input: &[u8]) -> &'static str {
+    if is_text(input) {
+        "fetchlog: the input looks like steps; framewriter makes frames of steps\n"
+    } else {
+        ""
+    }
 }
 
 /// The lines of a log, counted.
@@ -62,9 +74,9 @@ impl fmt::Display for Counts {
     }
 }
 
-/// Whether an input may be steps: printable bytes, tabs and ends of lines, or
-/// anything behind a byte order mark.
+/// Whether an input may be steps: printable bytes, bytes beyond ASCII, tabs and
+/// ends of lines, or anything behind a byte order mark.
 pub fn is_text(input: &[u8]) -> bool {
-    let printable = |byte: &u8| matches!(byte, b' '..=b'~' | b'\t' | b'\r' | b'\n');
-    MARKS.iter().any(|mark| input.starts_with(mark)) || input.iter().all(printable)
+    let written = |byte: &u8| matches!(byte, b' '..=b'~' | 0x80.. | b'\t' | b'\r' | b'\n');
+    MARKS.iter().any(|mark| input.starts_with(mark)) || input.iter().all(written)
 }

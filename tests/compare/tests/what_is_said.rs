@@ -27,6 +27,8 @@ fn an_input_that_is_too_long_is_not_counted() {
     let text = "fetchlog: the input is above 32768 bytes, no frame is run\n";
     assert_eq!(of(&[0; 32_769]), text);
     assert_ne!(of(&[0; 32_768]), text);
+    let hint = "fetchlog: the input looks like steps; framewriter makes frames of steps\n";
+    assert_eq!(of(&[b' '; 32_769]), format!("{hint}{text}"));
 }
 
 #[test]
@@ -35,16 +37,17 @@ fn steps_are_told_from_frames_that_end_too_soon() {
     let unreadable = "fetchlog: 1 frame, 0 ok, 0 refused, 1 unreadable\n";
     assert_eq!(of(b"B 1\n"), format!("{hint}{unreadable}"));
     assert_eq!(of(b"\xff\xfe\0"), format!("{hint}{unreadable}"));
-    assert_eq!(of(b"\xffB 1\n"), unreadable);
+    assert_eq!(of("B 1 # é\n".as_bytes()), format!("{hint}{unreadable}"));
+    assert_eq!(of(b"B 1\x7f\n"), unreadable);
     assert_eq!(of(b"     "), "fetchlog: 1 frame, 0 ok, 1 refused\n");
 }
 
 #[test]
-fn text_has_printable_bytes_and_ends_of_lines() {
+fn text_has_printable_bytes_and_bytes_beyond_ascii_and_ends_of_lines() {
     let bytes = (0..=255u8).filter(|byte| is_text(&[*byte]));
     let text: Vec<u8> = bytes.collect();
-    let printable = (0x20..=0x7e).collect::<Vec<u8>>();
-    assert_eq!(text, [b"\t\n\r", &printable[..]].concat());
+    let written = (0x20..=0x7e).chain(0x80..=0xff).collect::<Vec<u8>>();
+    assert_eq!(text, [b"\t\n\r", &written[..]].concat());
     for mark in [&b"\xef\xbb\xbf\0"[..], b"\xff\xfe\0", b"\xfe\xff\0"] {
         assert!(is_text(mark));
         assert!(!is_text(&mark[1..]));

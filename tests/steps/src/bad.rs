@@ -148,6 +148,6 @@ pub fn cases() -> Vec<Case> {
 fn among_good(line: &[u8], reason: &str) -> Case {
     let shown: String = line.escape_ascii().to_string().chars().take(40).collect();
     let input = [b"B 3\n\nH 16 61 # a\n", line, b"\nE 3\nX\n"].concat();
-    let text = complaint(4, reason, line) + &complaint(6, LETTER, b"X") + &bad_lines(2);
+    let text = complaint(4, reason, line) + &complaint(6, LETTER, b"X") + &bad_lines(&input, 2);
     Case::new(&format!("the line {shown:?}"), input, &[], &text)
 }

@@ -1,5 +1,7 @@
 //! All that the program must write for an input.
 
+use compare::said::is_text;
+
 use crate::grammar::{self, Line};
 use crate::quoted::quoted;
 
@@ -31,7 +33,10 @@ pub fn expected(input: &[u8]) -> (Vec<u8>, String) {
         let text = sum(count, frames.len());
         return (frames, text);
     }
-    (vec![], complaints.concat() + &bad_lines(complaints.len()))
+    (
+        vec![],
+        complaints.concat() + &bad_lines(input, complaints.len()),
+    )
 }
 
 /// What stands between newlines; behind the last of them only if something does.
@@ -46,10 +51,16 @@ pub fn complaint(number: usize, reason: &str, line: &[u8]) -> String {
     format!("framewriter: line {number}: {reason}: {}\n", quoted(line))
 }
 
-/// The last line if there are so many bad ones.
-pub fn bad_lines(count: usize) -> String {
+/// The last line if so many lines of the input are bad, and the line before it
+/// if the input is no text.
+pub fn bad_lines(input: &[u8], count: usize) -> String {
+    let hint = if is_text(input) {
+        ""
+    } else {
+        "framewriter: the input looks like frames; fetchlog runs frames\n"
+    };
     let lines = if count == 1 { "line" } else { "lines" };
-    format!("framewriter: {count} bad {lines}, nothing is written\n")
+    format!("{hint}framewriter: {count} bad {lines}, nothing is written\n")
 }
 
 /// The last line if there are so many frames and bytes of them, and the line

@@ -107,6 +107,7 @@ fn bad() -> Vec<Case> {
             "framewriter: line 1: a field too many: B 1\\x092\\x0d\n\
              framewriter: line 2: not a decimal number: B \\x5c\n\
              framewriter: line 3: not a decimal number: B ~\\x7f\\x00\\x1b\n\
+             framewriter: the input looks like frames; fetchlog runs frames\n\
              framewriter: 3 bad lines, nothing is written\n",
         ),
         refused(

@@ -11,10 +11,10 @@ use Rattle.console.proofs.input.read_whole.Statement.{statement}
 use Rattle.console.proofs.input.read_whole.Tie as tie
 
 abbrev Inv-loop : tie.InvT-loop
-Inv-loop fd buffer₀ done₀ buffer done = (done ≤ length buffer) × (length buffer ≡ length buffer₀)
+Inv-loop program fd buffer₀ done₀ buffer done = (done ≤ length buffer) × (length buffer ≡ length buffer₀)
 
 abbrev μ-loop : tie.MeasureT-loop
-μ-loop fd buffer₀ done₀ buffer done = length buffer - done
+μ-loop program fd buffer₀ done₀ buffer done = length buffer - done
 
 counts : (n : ℕ) (xs : List ℕ) → n ≤ length xs → Counts n xs
 counts n xs most = (most, sym (length-take-le n xs most))
@@ -27,6 +27,7 @@ read-whole-spec =
     μ-loop
     (λ c. search needs)
     (λ c κs. omega arith)
+    (λ c κs. search needs)
     (λ c. search needs)
     (λ c. counts _ _ (omega arith))
     (λ c. omega arith)

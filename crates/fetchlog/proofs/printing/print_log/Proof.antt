@@ -99,11 +99,13 @@ module _ (g : tie.After-print-frame Inv-loop μ-loop) where
 
 returns : tie.Need-returns Inv-loop μ-loop
 returns c =
-    let g = c .before .before .before .before .before .before .before .before .before .before in
+    let g = c .before .before .before .before .before .before .before .before .before .before .before in
     let R
-    = replays-unreadable (device (start (l g))) (input (l g)) [] _ _ 0 _ (d (l g)) [] (running (l g)) (inside g) 0 [] (nowhere (l g)) (was-unread g (omega arith))
+    = replays-unreadable (device (start (l g))) (input (l g)) [] _ _ 0 _ (d (l g)) [] (running (l g)) (inside g) 0 [] (nowhere (l g))
+    (was-unread g (omega arith))
     (shown g .leaves) in
-    record { leaves = R .leaves; carried = R .carried; refused = R .refused; early = R .early }
+    let sum = c .summed .ensures in
+    record { leaves = R .leaves; carried = sum .0 ∙ R .carried; refused = sum .1 ∙ R .refused; early = sum .2 ∙ R .early }
 
 add-at : tie.Need-add-at Inv-loop μ-loop
 add-at c =
@@ -130,9 +132,10 @@ loop-again c =
 
 returns-2 : tie.Need-returns-2 Inv-loop μ-loop
 returns-2 c =
-    let l = c .before in
-    let R = replays-all (device (start l)) (input l) [] _ _ 0 _ (d l) [] (running l) (c .loop-test .left) refl in
-    record { leaves = R .leaves; carried = R .carried; refused = R .refused; early = R .early }
+    let l = c .before .before in
+    let R = replays-all (device (start l)) (input l) [] _ _ 0 _ (d l) [] (running l) (c .before .loop-test .left) refl in
+    let sum = c .summed2 .ensures in
+    record { leaves = R .leaves; carried = sum .0 ∙ R .carried; refused = sum .1 ∙ R .refused; early = sum .2 ∙ R .early }
 
 pub print-log-spec : {M : Type 1} → statement M
 print-log-spec =
@@ -148,8 +151,7 @@ print-log-spec =
     (λ c κs. omega arith)
     (λ c κs. search needs)
     (λ c. omega arith)
-    (λ c. omega arith)
-    (λ c. omega arith)
+    (λ c κs. (omega arith, omega arith))
     (λ c. omega arith)
     (λ c. omega arith)
     (λ c. omega arith)
@@ -161,7 +163,7 @@ print-log-spec =
     add-at
     (λ c. omega arith)
     loop-again
-    (λ c. omega arith)
+    (λ c κs. (omega arith, omega arith))
     (λ c. omega arith)
     (λ c. omega arith)
     (λ c. omega arith)
