@@ -1,7 +1,8 @@
 -- Laws of the walk over the rules of the records.
-use Prim.Native.Nat.{ℕ, _+_, _<_, _≤_}
+use Prim.Native.Nat.{ℕ, suc, _+_, _<_, _≤_}
 use native.Mathlib.Omega.{arith}
 use native.Mathlib.Nat.{add-zero}
+use native.Mathlib.Numerals.{add-one}
 use mathlib.Core.Path.{_≡_, refl, sym, _∙_}
 use mathlib.Core.List.{List, [], _∷_}
 use mathlib.Core.Bool.{Bool, true, false, cond, _&&_, and-true, and-false}
@@ -16,50 +17,53 @@ use Rattle.state.specs.State.{CommandState, noRecord, recordsIn, ascending}
 use Rattle.state.proofs.Walk.{at-next}
 use Rattle.words.specs.Holds.{faultOf}
 
--- Records in a chain: each starts at or behind the end of the one before it, lo for the first, and is not empty. A chain that ends
--- where addresses do is records that ascend, so that a walk asks for that once, at its end.
+-- Records in a chain: each starts behind the address after the one before it, the first at lo or behind it, and is not empty. A chain
+-- that ends where addresses do is records that ascend, so that a walk asks for that once, at its end.
 unfoldable pub chained : ℕ → List Record → Bool
 chained lo [] = true
-chained lo (r ∷ rs) = leb lo (r .start) && ltb 0 (r .len) && chained (past r) rs
+chained lo (r ∷ rs) = leb lo (r .start) && ltb 0 (r .len) && chained (suc (past r)) rs
 
+-- the lowest address at which one more record may start
 unfoldable pub chainEnd : ℕ → List Record → ℕ
 chainEnd lo [] = lo
-chainEnd lo (r ∷ rs) = chainEnd (past r) rs
+chainEnd lo (r ∷ rs) = chainEnd (suc (past r)) rs
 
 chain-reaches : (lo : ℕ) (rs : List Record) → chained lo rs ≡ true → lo ≤ chainEnd lo rs
 unfolding chained chainEnd
 chain-reaches lo [] up = omega arith
 chain-reaches lo (r ∷ rs) up =
-    let first = and-left (leb lo (r .start) && ltb 0 (r .len)) (chained (past r) rs) up in
-    let rest = and-right (leb lo (r .start) && ltb 0 (r .len)) (chained (past r) rs) up in
-    omega (arith, leb-true lo (r .start) (and-left (leb lo (r .start)) (ltb 0 (r .len)) first), chain-reaches (past r) rs rest)
+    let first = and-left (leb lo (r .start) && ltb 0 (r .len)) (chained (suc (past r)) rs) up in
+    let rest = and-right (leb lo (r .start) && ltb 0 (r .len)) (chained (suc (past r)) rs) up in
+    omega (arith, leb-true lo (r .start) (and-left (leb lo (r .start)) (ltb 0 (r .len)) first), chain-reaches (suc (past r)) rs rest)
 
-pub ascending-chained : (lo : ℕ) (rs : List Record) → lo ≤ windowLimit → ascending lo rs ≡ (chained lo rs && leb (chainEnd lo rs) windowLimit)
+pub ascending-chained : (lo : ℕ) (rs : List Record) → lo ≤ suc windowLimit → ascending lo rs ≡ (chained lo rs && leb (chainEnd lo rs) (suc windowLimit))
 unfolding ascending chained chainEnd
-ascending-chained lo [] low = sym (le-leb lo windowLimit low)
-ascending-chained lo (r ∷ rs) low = go (leb (past r) windowLimit) refl (ascending-chained (past r) rs)
+ascending-chained lo [] low = sym (le-leb lo (suc windowLimit) low)
+ascending-chained lo (r ∷ rs) low = go (leb (past r) windowLimit) refl (ascending-chained (suc (past r)) rs)
   where
     regroup : (x c e : Bool) → (x && true && (c && e)) ≡ (x && c && e)
     regroup true c e = refl
     regroup false c e = refl
 
     -- a chain that has passed the last address does not come back
-    far : windowLimit < past r → (c : Bool) → chained (past r) rs ≡ c → (x : Bool) → (x && false && ascending (past r) rs) ≡ (x && c && leb (chainEnd (past r) rs) windowLimit)
-    far over true up true = sym (lt-leb (chainEnd (past r) rs) windowLimit (omega (arith, chain-reaches (past r) rs up)))
+    far : windowLimit < past r → (c : Bool) → chained (suc (past r)) rs ≡ c → (x : Bool)
+        → (x && false && ascending (suc (past r)) rs) ≡ (x && c && leb (chainEnd (suc (past r)) rs) (suc windowLimit))
+    far over true up true = sym (lt-leb (chainEnd (suc (past r)) rs) (suc windowLimit) (omega (arith, chain-reaches (suc (past r)) rs up)))
     far over false up true = refl
     far over c up false = refl
 
-    go : (b : Bool) → leb (past r) windowLimit ≡ b → (past r ≤ windowLimit → ascending (past r) rs ≡ (chained (past r) rs && leb (chainEnd (past r) rs) windowLimit))
-        → (leb lo (r .start) && ltb 0 (r .len) && leb (past r) windowLimit && ascending (past r) rs)
-        ≡ (leb lo (r .start) && ltb 0 (r .len) && chained (past r) rs && leb (chainEnd (past r) rs) windowLimit)
+    go : (b : Bool) → leb (past r) windowLimit ≡ b
+        → (suc (past r) ≤ suc windowLimit → ascending (suc (past r)) rs ≡ (chained (suc (past r)) rs && leb (chainEnd (suc (past r)) rs) (suc windowLimit)))
+        → (leb lo (r .start) && ltb 0 (r .len) && leb (past r) windowLimit && ascending (suc (past r)) rs)
+        ≡ (leb lo (r .start) && ltb 0 (r .len) && chained (suc (past r)) rs && leb (chainEnd (suc (past r)) rs) (suc windowLimit))
     go true e rest =
-        rw (e, rest (leb-true (past r) windowLimit e))
-        (regroup (leb lo (r .start) && ltb 0 (r .len)) (chained (past r) rs) (leb (chainEnd (past r) rs) windowLimit))
-    go false e rest = rw e (far (leb-false (past r) windowLimit e) (chained (past r) rs) refl (leb lo (r .start) && ltb 0 (r .len)))
+        rw (e, rest (omega (arith, leb-true (past r) windowLimit e)))
+        (regroup (leb lo (r .start) && ltb 0 (r .len)) (chained (suc (past r)) rs) (leb (chainEnd (suc (past r)) rs) (suc windowLimit)))
+    go false e rest = rw e (far (leb-false (past r) windowLimit e) (chained (suc (past r)) rs) refl (leb lo (r .start) && ltb 0 (r .len)))
 
 -- what the walk over the rules of the records has still to find, where it has come to an address and a sum and has met some faults
 abbrev pub keptFrom : (faults low sum : ℕ) → List Record → Bool
-keptFrom faults low sum rs = eqb faults 0 && chained low rs && leb (chainEnd low rs) windowLimit && leb (sum + total rs) heldLimit
+keptFrom faults low sum rs = eqb faults 0 && chained low rs && leb (chainEnd low rs) (suc windowLimit) && leb (sum + total rs) heldLimit
 
 module _ (p : CommandState) (i faults low sum : ℕ) (h : i < length (recordsIn p)) {z : Bool} (e : keptFrom faults low sum (drop i (recordsIn p)) ≡ z) where
   abbrev r : Record
@@ -73,10 +77,10 @@ module _ (p : CommandState) (i faults low sum : ℕ) (h : i < length (recordsIn 
   regroup true x c = refl
   regroup false x c = refl
 
-  pub record-walked : keptFrom (faults + faultOf low (r .start) (r .len)) (past r) (sum + r .len) (drop (i + 1) (recordsIn p)) ≡ z
+  pub record-walked : keptFrom (faults + faultOf low (r .start) (r .len)) (past r + 1) (sum + r .len) (drop (i + 1) (recordsIn p)) ≡ z
   unfolding total chained chainEnd
   record-walked =
       let rest = drop (i + 1) (recordsIn p) in
       let sums : sum + r .len + total rest ≡ sum + (r .len + total rest) = omega arith in
-      rw (one-fault (leb low (r .start) && ltb 0 (r .len)), regroup (eqb faults 0) (leb low (r .start) && ltb 0 (r .len)) (chained (past r) rest), sums)
+      rw (add-one (past r), one-fault (leb low (r .start) && ltb 0 (r .len)), regroup (eqb faults 0) (leb low (r .start) && ltb 0 (r .len)) (chained (suc (past r)) rest), sums)
       (at-next p i h (keptFrom faults low sum) e)

@@ -9,6 +9,6 @@ use Rattle.octets.specs.Lists.{all}
 abbrev pub allZero : List ℕ → Bool
 allZero words = all (λ w. eqb w 0) words
 
--- one if a record breaks the chain: it starts before the end of the one before it, or is empty
+-- one if a record breaks the chain: it starts below the lowest address at which it may, or is empty
 abbrev pub faultOf : (low start len : ℕ) → ℕ
 faultOf low start len = cond (leb low start && ltb 0 len) 0 1

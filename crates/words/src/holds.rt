@@ -16,7 +16,7 @@ use crate::entries::wide;
 use crate::entries::wide32;
 use state::CacheState;
 
-// One if a record starts before the end of the one before it, or is empty.
+// One if a record starts below the lowest address at which it may, or is empty.
 fn fault(low: u32, start: u32, len: u32) -> u32
     ensures { λ r. ⌜ (r ≡ faultOf low start len) × (r ≤ 1) ⌝ }
 {
@@ -29,9 +29,9 @@ fn fault(low: u32, start: u32, len: u32) -> u32
     0
 }
 
-// Whether each record starts behind the one before it, is not empty and ends where addresses do, and they hold no more bytes than a
-// command may. Faults are counted, with no test before the end, since one is rare; and where each starts behind the one before it, the
-// last ends highest.
+// Whether each record starts behind the one before it and does not touch it, is not empty and ends where addresses do, and they hold no
+// more bytes than a command may. Faults are counted, with no test before the end, since one is rare; and where each starts behind the one
+// before it, the last ends highest.
 fn records_hold(words: &[u16]) -> bool
     requires { ⌜ length (now words) ≡ commandWords ⌝ }
     ensures { λ r. ⌜ r ≡ (ascending 0 (recordsIn (commandIn (now (words .entry)))) && leb (total (recordsIn (commandIn (now (words .entry))))) heldLimit) ⌝ }
@@ -46,14 +46,14 @@ fn records_hold(words: &[u16]) -> bool
         let start = wide32(r.start);
         let len = wide32(r.len);
         faults = faults + fault(low, start, len);
-        low = start + len;
+        low = start + len + 1;
         sum = sum + len;
         i = i + 1;
     }
     if 0 < faults {
         return false;
     }
-    if CacheState::WINDOW < low as usize {
+    if CacheState::WINDOW + 1 < low as usize {
         return false;
     }
     sum as usize <= CacheState::HELD

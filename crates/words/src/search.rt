@@ -29,7 +29,7 @@ pub fn held_from(words: &[u16], from: usize) -> usize
     sum
 }
 
-// The search goes on past a record that starts before the span's end: it lies before the span, or meets it.
+// The search goes on past a record that starts at or before the span's end: it lies before the span, or meets it.
 fn pass(m: Meeting, r: Record, address: usize) -> Meeting
     requires { ⌜ Counted m 63 ⌝ }
     ensures { λ n. ⌜ Passed m r address n ⌝ }
@@ -37,7 +37,7 @@ fn pass(m: Meeting, r: Record, address: usize) -> Meeting
     let start = wide(r.start);
     let len = wide(r.len);
     let past = start + len;
-    if past <= address {
+    if past < address {
         return Meeting {
             first: m.first + 1,
             last: m.last + 1,
@@ -74,7 +74,7 @@ pub fn meeting(words: &[u16], address: usize, end: usize) -> Meeting
     let mut i = 0;
     while i < n {
         let r = entry(words, i);
-        if end <= wide(r.start) {
+        if end < wide(r.start) {
             return m;
         }
         m = pass(m, r, address);

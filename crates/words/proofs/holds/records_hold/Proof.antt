@@ -1,5 +1,5 @@
 -- What is left of the walk decides, with the faults, the end and the sum that it has come to.
-use Prim.Native.Nat.{ℕ, _*_, _-_, _≤_}
+use Prim.Native.Nat.{ℕ, suc, _*_, _-_, _≤_}
 use native.Mathlib.Omega.{arith}
 use native.Mathlib.Nat.{zero-add, add-zero}
 use mathlib.Core.Path.{_≡_, ap, ap₂, sym, _∙_}
@@ -59,14 +59,14 @@ unfolding chained chainEnd total
 returns-2 c =
     let l = c .before .before .before in
     let p = commandIn (now (l .before .before .before .args .words)) in
-    rw (no-record p (l .loop .i) (omega arith), eq-eqb (l .loop .faults) 0 (omega arith), lt-leb (l .loop .low) windowLimit (omega arith)) at (l .loop .inv .0)
+    rw (no-record p (l .loop .i) (omega arith), eq-eqb (l .loop .faults) 0 (omega arith), lt-leb (l .loop .low) (suc windowLimit) (omega arith)) at (l .loop .inv .0)
 
 returns-3 : tie.Need-returns-3 Inv-loop μ-loop
 unfolding chained chainEnd total
 returns-3 c =
     let l = c .before .before .before in
     let p = commandIn (now (l .before .before .before .args .words)) in
-    rw (no-record p (l .loop .i) (omega arith), eq-eqb (l .loop .faults) 0 (omega arith), le-leb (l .loop .low) windowLimit (omega arith), add-zero (l .loop .sum))
+    rw (no-record p (l .loop .i) (omega arith), eq-eqb (l .loop .faults) 0 (omega arith), le-leb (l .loop .low) (suc windowLimit) (omega arith), add-zero (l .loop .sum))
     at (l .loop .inv .0)
 
 pub records-hold-spec : {M : Type 1} → statement M
@@ -86,8 +86,10 @@ records-hold-spec =
     (λ c. omega arith)
     (λ c. omega arith)
     (λ c. omega arith)
+    (λ c. omega arith)
     loop-again
     returns
+    (λ c. omega arith)
     (λ c. omega arith)
     returns-2
     (λ c. omega arith)
