@@ -47,7 +47,7 @@ pub(crate) fn admit(
     if room < size {
         return Admission::Barred(Refusal::BufferTooShort);
     }
-    if !words::holds::holds(state) {
+    if !integrity::holds(state) {
         return Admission::Barred(Refusal::StateBroken);
     }
     if !is_open(state, command) {

@@ -11,12 +11,12 @@ ghost use Rattle.state.specs.Words.{stateOf};
 ghost use Rattle.fetch.specs.Fetch.{Fetches};
 use admit::Admission;
 use admit::admit;
+use join::splice::splice;
 use plan::Finding;
 use plan::planned;
 use state::CacheState;
 use state::Refusal;
 use store::part;
-use words::splice::splice;
 
 mod admit;
 mod plan;

@@ -7,11 +7,11 @@ ghost use Rattle.state.specs.Limits.{transferLimit, windowLimit, commandWords};
 ghost use Rattle.state.specs.State.{commandHolds};
 ghost use Rattle.state.specs.Words.{commandIn};
 ghost use Rattle.fetch.specs.Plan.{Plans};
+use join::search::meeting;
 use state::CacheState;
 use state::Meeting;
+use words::entries::held_from;
 use words::entries::used;
-use words::search::held_from;
-use words::search::meeting;
 
 pub(crate) enum Finding {
     // how the span meets the records, how many of its bytes are fresh, where its first byte will stand among the packed bytes, and how
