@@ -6,14 +6,14 @@ ghost use lib.ListN.{length};
 ghost use Rattle.state.specs.Limits.{transferLimit, windowLimit, commandWords};
 ghost use Rattle.state.specs.State.{commandHolds};
 ghost use Rattle.state.specs.Words.{commandIn};
-ghost use Rattle.fetch.specs.Plan.{Plans};
+ghost use Rattle.admission.specs.Plan.{Plans};
 use join::search::meeting;
 use state::CacheState;
 use state::Meeting;
 use words::entries::held_from;
 use words::entries::used;
 
-pub(crate) enum Finding {
+pub enum Finding {
     // how the span meets the records, how many of its bytes are fresh, where its first byte will stand among the packed bytes, and how
     // many bytes are held behind it
     Span {
@@ -26,7 +26,7 @@ pub(crate) enum Finding {
     Records,
 }
 
-pub(crate) fn planned(words: &[u16], address: usize, size: usize) -> Finding
+pub fn planned(words: &[u16], address: usize, size: usize) -> Finding
     requires { ⌜ (length (now words) ≡ commandWords) × (commandHolds (commandIn (now words)) ≡ true) × (0 < size) × (size ≤ transferLimit) × (address + size ≤ windowLimit) ⌝ }
     ensures { λ r. ⌜ Plans (commandIn (now (words .entry))) address size r ⌝ }
 {

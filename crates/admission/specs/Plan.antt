@@ -11,10 +11,10 @@ use Rattle.state.specs.Limits.{recordLimit, heldLimit}
 use Rattle.state.specs.Records.{total}
 use Rattle.state.specs.Refusals.{number}
 use Rattle.state.specs.Verdict.{Reply, refused, replied}
-use Rattle.fetch.specs.declared.admit.Admission.{Admission}
-use Rattle.fetch.specs.declared.admit.Admission.the-variants.{Admitted, Barred}
-use Rattle.fetch.specs.declared.plan.Finding.{Finding}
-use Rattle.fetch.specs.declared.plan.Finding.the-variants.{Span, Bytes, Records}
+use Rattle.admission.specs.declared.admit.Admission.{Admission}
+use Rattle.admission.specs.declared.admit.Admission.the-variants.{Admitted, Barred}
+use Rattle.admission.specs.declared.plan.Finding.{Finding}
+use Rattle.admission.specs.declared.plan.Finding.the-variants.{Span, Bytes, Records}
 
 abbrev pub admissionReply : Admission → Reply
 admissionReply Admitted = replied []

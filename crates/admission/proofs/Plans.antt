@@ -12,7 +12,7 @@ use Rattle.state.specs.Records.{total}
 use Rattle.state.proofs.Join.{join-judged}
 use Rattle.state.proofs.Commands.{Kept, kept-command}
 use Rattle.state.proofs.Laws.{total-append, fresh-by-place}
-use Rattle.fetch.specs.Plan.{bytesOf}
+use Rattle.admission.specs.Plan.{bytesOf}
 
 -- what was met gives the parts of the join
 module _ (p : CommandState) (a n : ℕ) (m : Meeting) (met : m ≡ meeting (recordsIn p) a (a + n)) where

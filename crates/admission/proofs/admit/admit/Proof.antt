@@ -13,8 +13,8 @@ use Rattle.state.specs.Limits.{commandLimit, transferLimit, windowLimit, storeS
 use Rattle.state.specs.Words.{stateOf}
 use Rattle.state.specs.Verdict.{Check, replied, verdict}
 use Rattle.cache.specs.Fetch.{admitChecks}
-use Rattle.fetch.proofs.admit.admit.Statement.{statement}
-use Rattle.fetch.proofs.admit.admit.Tie as tie
+use Rattle.admission.proofs.admit.admit.Statement.{statement}
+use Rattle.admission.proofs.admit.admit.Tie as tie
 
 abbrev checks : tie.Start → List Check
 checks s =

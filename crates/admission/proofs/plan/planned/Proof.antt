@@ -11,10 +11,10 @@ use Rattle.state.specs.Join.{Join, meeting, join}
 use Rattle.state.specs.Limits.{heldLimit}
 use Rattle.state.specs.Records.{total}
 use Rattle.state.specs.Words.{commandIn}
-use Rattle.fetch.specs.Plan.{bytesOf}
-use Rattle.fetch.proofs.Plans.{meets, new-is, place-is, count-is, bytes-are, held-small, fresh-small}
-use Rattle.fetch.proofs.plan.planned.Statement.{statement}
-use Rattle.fetch.proofs.plan.planned.Tie as tie
+use Rattle.admission.specs.Plan.{bytesOf}
+use Rattle.admission.proofs.Plans.{meets, new-is, place-is, count-is, bytes-are, held-small, fresh-small}
+use Rattle.admission.proofs.plan.planned.Statement.{statement}
+use Rattle.admission.proofs.plan.planned.Tie as tie
 
 -- what the search gave
 module _ (h : tie.After-held-from) where

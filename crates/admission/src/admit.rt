@@ -6,18 +6,18 @@ ghost use Rattle.state.specs.Limits.{stateWords};
 ghost use Rattle.state.specs.Words.{stateOf};
 ghost use Rattle.state.specs.Verdict.{replied, verdict};
 ghost use Rattle.cache.specs.Fetch.{admitChecks};
-ghost use Rattle.fetch.specs.Plan.{admissionReply};
+ghost use Rattle.admission.specs.Plan.{admissionReply};
 use cache::range;
 use state::CacheState;
 use state::Refusal;
 use words::command::is_open;
 
-pub(crate) enum Admission {
+pub enum Admission {
     Admitted,
     Barred(Refusal),
 }
 
-pub(crate) fn admit(
+pub fn admit(
     state: &[u16],
     store_len: usize,
     window_len: usize,
