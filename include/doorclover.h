@@ -222,9 +222,9 @@ DOORCLOVER_USE_REPLY doorclover_begun doorclover_begin(
 /*
  * Delivers a span into the front of the destination. A byte that the command holds comes from the
  * store. Any other is read from the window, and is held from now on. The records that share a byte
- * with the span become one with it; records that only touch stay two. The destination behind the
- * span does not change. A length of 0 changes nothing. A span that reaches past the window of this
- * call is refused, even where it is held.
+ * with the span or touch it become one with it, so that records are the longest unbroken runs of
+ * what the command holds. The destination behind the span does not change. A length of 0 changes
+ * nothing. A span that reaches past the window of this call is refused, even where it is held.
  * Refused with 4, 6 to 10, 20, 21, 23, 24.
  */
 DOORCLOVER_USE_REPLY doorclover_fetched doorclover_fetch(

@@ -28,10 +28,10 @@ impl Span {
         (0..self.length).map(move |place| self.start + place)
     }
 
-    /// Whether some address lies in both spans. Spans that only touch have
-    /// none in common.
-    pub(crate) fn shares_a_byte_with(self, other: Span) -> bool {
-        u128::from(self.start.max(other.start)) < self.end().min(other.end())
+    /// Whether the span ends below the other one's start with an address
+    /// between them. Spans that share a byte or touch have none there.
+    pub(crate) fn ends_short_of(self, other: Span) -> bool {
+        self.end() < u128::from(other.start)
     }
 }
 
@@ -76,7 +76,9 @@ impl CommandBook {
         self.used_and_unused().map_or(&[], |(used, _)| used)
     }
 
-    /// Whether the command keeps every rule that 01 sets for it.
+    /// Whether the command keeps every rule that 01 sets for it, and that of
+    /// F-1 of 02 (the agreed changes; docs/RULES.md has them too): no two
+    /// records touch.
     fn holds_together(&self) -> bool {
         let Some((used, unused)) = self.used_and_unused() else {
             return false;
@@ -88,10 +90,7 @@ impl CommandBook {
             && used
                 .iter()
                 .all(|record| record.end() <= WINDOW_BYTES as u128)
-            && used.windows(2).all(|pair| {
-                let (earlier, later) = (pair[0], pair[1]);
-                earlier.start < later.start && !earlier.shares_a_byte_with(later)
-            })
+            && used.windows(2).all(|pair| pair[0].ends_short_of(pair[1]))
             && total <= HELD_PER_COMMAND as u128
     }
 }

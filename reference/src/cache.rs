@@ -76,7 +76,7 @@ pub fn fetch(
     refuse_lowest([
         (held.bytes.len() > HELD_PER_COMMAND, Refusal::TooManyBytes),
         (
-            held.spans.len() > RECORDS_PER_COMMAND,
+            held.runs().len() > RECORDS_PER_COMMAND,
             Refusal::TooManyRecords,
         ),
     ])?;
@@ -106,7 +106,7 @@ pub fn end(book: &mut Book, store: &mut [u8], command: u64) -> Result<Ended, Ref
     *entry = CommandBook::CLOSED;
     part.fill(0);
     Ok(Ended {
-        records: held.spans.len() as u64,
+        records: held.runs().len() as u64,
         bytes: held.bytes.len() as u64,
     })
 }

@@ -1,14 +1,13 @@
 //! What one command holds, taken out of book and store: a map from address
-//! to byte beside a list of spans.
+//! to byte. Its records are the unbroken runs of the addresses in it.
 
 use std::collections::BTreeMap;
 
 use crate::book::{CommandBook, Span};
 
-/// The held bytes of a command by address, and the records that cover them.
+/// The held bytes of a command by address.
 pub struct Held {
     pub bytes: BTreeMap<u64, u8>,
-    pub spans: Vec<Span>,
 }
 
 impl Held {
@@ -16,10 +15,10 @@ impl Held {
     /// part, where they are packed by ascending address ("The book and the
     /// store" in 01, the agreed scope; docs/RULES.md has its rules).
     pub fn unpack(command: &CommandBook, part: &[u8]) -> Held {
-        let spans = command.records().to_vec();
-        let addresses = spans.iter().flat_map(|span| span.addresses());
+        let records = command.records().iter();
+        let addresses = records.flat_map(|record| record.addresses());
         let bytes = addresses.zip(part.iter().copied()).collect();
-        Held { bytes, spans }
+        Held { bytes }
     }
 
     /// Takes in each byte of the span that is not held yet from the window,
@@ -32,35 +31,25 @@ impl Held {
                 .entry(address)
                 .or_insert_with(|| window[address as usize]);
         }
-        self.join(span);
         (self.bytes.len() - held_before) as u64
     }
 
-    /// Puts one span over the union in the place of the given one and of all
-    /// that share a byte with it; an empty span adds nothing (the joining
-    /// rule of "Fetch" in 01).
-    fn join(&mut self, span: Span) {
-        if span.length == 0 {
-            return;
+    /// The longest unbroken runs of held addresses, ascending. They are the
+    /// records: a span is joined with every record that shares a byte with it
+    /// or touches it (F-1 of 02, the agreed changes; docs/RULES.md has them
+    /// too).
+    pub fn runs(&self) -> Vec<Span> {
+        let mut runs: Vec<Span> = vec![];
+        for &address in self.bytes.keys() {
+            match runs.last_mut() {
+                Some(run) if run.end() == u128::from(address) => run.length += 1,
+                _ => runs.push(Span {
+                    start: address,
+                    length: 1,
+                }),
+            }
         }
-        let (met, mut spans): (Vec<Span>, Vec<Span>) = self
-            .spans
-            .iter()
-            .partition(|other| other.shares_a_byte_with(span));
-        let start = met
-            .iter()
-            .map(|other| other.start)
-            .fold(span.start, u64::min);
-        let end = met
-            .iter()
-            .map(|other| other.start + other.length)
-            .fold(span.start + span.length, u64::max);
-        spans.push(Span {
-            start,
-            length: end - start,
-        });
-        spans.sort_by_key(|other| other.start);
-        self.spans = spans;
+        runs
     }
 
     /// The held bytes of a span that lies wholly in the map, by ascending
@@ -73,7 +62,7 @@ impl Held {
     /// Writes the records into a command and the bytes to the front of its
     /// store part. The places behind them stay as they are.
     pub fn pack(&self, command: &mut CommandBook, part: &mut [u8]) {
-        *command = CommandBook::open_with(&self.spans);
+        *command = CommandBook::open_with(&self.runs());
         for (place, byte) in part.iter_mut().zip(self.bytes.values()) {
             *place = *byte;
         }

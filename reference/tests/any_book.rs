@@ -8,8 +8,8 @@ use crate::model::Model;
 use crate::random_lists::{one_call, Profile, Tally};
 use crate::scene::{open_with, Scene};
 
-/// An open command with any records that keep the rules, many of them
-/// touching, at the low or at the high end of the addresses.
+/// An open command with any records that keep the rules, many of them with
+/// one address between, at the low or at the high end of the addresses.
 fn any_command(generator: &mut Generator) -> CommandBook {
     let count = generator.below(65);
     let longest = [1, 3, 64][generator.below(3) as usize];
@@ -20,10 +20,10 @@ fn any_command(generator: &mut Generator) -> CommandBook {
         let start = next + generator.below(widest);
         let length = generator.between(1, longest);
         records.push((start, length));
-        next = start + length;
+        next = start + length + 1;
     }
     let shift = if generator.one_in(4) {
-        65_536 - next
+        65_537 - next
     } else {
         0
     };
@@ -82,14 +82,14 @@ fn any_book_that_holds_together_is_served_by_the_rules() {
 
 #[test]
 fn held_bytes_come_from_the_store_whatever_the_window_says() {
-    let mut scene = Scene::with_records(4, &[(100, 2), (102, 3), (50_000, 1)]);
+    let mut scene = Scene::with_records(4, &[(100, 2), (103, 3), (50_000, 1)]);
     scene.store[4 * 4_096..4 * 4_096 + 6].copy_from_slice(&[1, 2, 3, 4, 5, 6]);
     scene.window.fill(0xee);
-    assert_eq!(scene.fetch(4, 100, 5), Ok((0, 5)));
-    assert_eq!(scene.destination[..5], [1, 2, 3, 4, 5]);
+    assert_eq!(scene.fetch(4, 100, 6), Ok((1, 5)));
+    assert_eq!(scene.destination[..6], [1, 2, 0xee, 3, 4, 5]);
     assert_eq!(scene.fetch(4, 49_999, 3), Ok((2, 1)));
     assert_eq!(scene.destination[..3], [0xee, 6, 0xee]);
-    assert_eq!(scene.records(4), [(100, 5), (49_999, 3)]);
-    let part = &scene.store[4 * 4_096..][..8];
-    assert_eq!(part, [1, 2, 3, 4, 5, 0xee, 6, 0xee]);
+    assert_eq!(scene.records(4), [(100, 6), (49_999, 3)]);
+    let part = &scene.store[4 * 4_096..][..9];
+    assert_eq!(part, [1, 2, 0xee, 3, 4, 5, 0xee, 6, 0xee]);
 }

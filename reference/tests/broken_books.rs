@@ -40,6 +40,26 @@ fn broken_commands() -> Vec<(&'static str, CommandBook)> {
             open_with(&[(10, 4), (20, 0), (30, 4)]),
         ),
         ("one byte shared", open_with(&[(10, 4), (13, 4)])),
+        ("touching", open_with(&[(10, 4), (14, 4)])),
+        ("touching at address 0", open_with(&[(0, 1), (1, 1)])),
+        (
+            "touching at the last address",
+            open_with(&[(65_534, 1), (65_535, 1)]),
+        ),
+        (
+            "touching behind others",
+            open_with(&[(0, 4), (5, 4), (10, 1), (11, 3)]),
+        ),
+        ("touching as the 63rd and 64th record", {
+            let mut records = evenly(64, 4, 1);
+            records[62].1 = 4;
+            open_with(&records)
+        }),
+        ("64 touching records", open_with(&evenly(64, 1, 1))),
+        (
+            "64 touching records of 64 bytes",
+            open_with(&evenly(64, 64, 64)),
+        ),
         ("the same start", open_with(&[(10, 4), (10, 6)])),
         ("the same record twice", open_with(&[(10, 4), (10, 4)])),
         ("one inside another", open_with(&[(10, 9), (12, 2)])),
@@ -100,9 +120,15 @@ fn sound_commands() -> Vec<(&'static str, CommandBook)> {
         ("closed", CommandBook::CLOSED),
         ("no records", open_with(&[])),
         ("a byte at 0", open_with(&[(0, 1)])),
-        ("touching records", open_with(&[(0, 4), (4, 4), (8, 1)])),
+        (
+            "gaps of one byte",
+            open_with(&[(0, 4), (5, 4), (10, 1), (65_533, 1), (65_535, 1)]),
+        ),
         ("64 records", open_with(&evenly(64, 2, 1))),
-        ("64 touching records", open_with(&evenly(64, 1, 1))),
+        (
+            "64 records up to the last address",
+            open_with(&(0..64).map(|at| (65_409 + 2 * at, 1)).collect::<Vec<_>>()),
+        ),
         ("4,096 bytes in one record", open_with(&[(7, 4_096)])),
         (
             "4,096 bytes in 64 records",
@@ -156,11 +182,12 @@ fn each_sound_book_is_taken() {
     }
 }
 
-/// The rules of the book, taken one by one and byte by byte.
+/// The rules of the book, taken one by one and byte by byte: no byte of a
+/// record, and none right before or behind it, is in an earlier one.
 fn keeps_every_rule(book: &Book) -> bool {
     book.commands.iter().all(|command| {
         let used = command.count.min(64) as usize;
-        let mut covered = vec![false; 65_536];
+        let mut covered = vec![false; 65_537];
         let mut last_start = None;
         let mut total = 0;
         for record in &command.entries[..used] {
@@ -169,13 +196,13 @@ fn keeps_every_rule(book: &Book) -> bool {
             if record.length == 0 || past || !ascending {
                 return false;
             }
-            for address in record.start..record.start + record.length {
-                if covered[address as usize] {
-                    return false;
-                }
-                covered[address as usize] = true;
-                total += 1;
+            let end = record.start + record.length;
+            let before = record.start.saturating_sub(1);
+            if covered[before as usize..=end as usize].contains(&true) {
+                return false;
             }
+            covered[record.start as usize..end as usize].fill(true);
+            total += record.length;
             last_start = Some(record.start);
         }
         let rest_is_zero = command.entries[used..]
@@ -218,8 +245,8 @@ fn holds_together_agrees_with_the_rules_taken_byte_by_byte() {
         for command in &mut book.commands {
             if generator.one_in(2) {
                 let count = generator.below(65);
-                let distance = generator.between(1, 70);
-                *command = open_with(&evenly(count, distance, distance.min(64)));
+                let distance = generator.between(2, 70);
+                *command = open_with(&evenly(count, distance, (distance - 1).min(64)));
             }
         }
         for _ in 0..generator.below(3) {

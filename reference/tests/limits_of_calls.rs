@@ -114,7 +114,7 @@ fn end_21_command_not_open() {
 #[test]
 fn end_closes_and_zeroes_only_its_own_part() {
     for command in 0..8usize {
-        let mut scene = Scene::with_records(command as u64, &[(3, 5), (8, 2), (65_535, 1)]);
+        let mut scene = Scene::with_records(command as u64, &[(3, 5), (9, 2), (65_535, 1)]);
         let mut expected = scene.clone();
         expected.book = Scene::fresh(0).book;
         expected.store[4_096 * command..4_096 * command + 4_096].fill(0);
@@ -258,7 +258,7 @@ fn fetch_24_records_would_pass_64() {
     let mut scene = Scene::with_records(1, &singles[..63]);
     assert_eq!(scene.fetch(1, 252, 1), Ok((1, 0)));
     assert_eq!(scene.records(1), singles);
-    for (address, length) in [(256, 1), (2, 1), (1, 3), (253, 1), (60_000, 100)] {
+    for (address, length) in [(256, 1), (2, 1), (250, 1), (254, 1), (60_000, 100)] {
         assert_eq!(scene.fetch(1, address, length), Err(24));
     }
     assert_eq!(scene.fetch(1, 60_000, 0), Ok((0, 0)));
@@ -269,6 +269,95 @@ fn fetch_24_records_would_pass_64() {
     assert_eq!(scene.fetch(1, 60_002, 1), Err(24));
     assert_eq!(scene.fetch(1, 0, 4_000), Ok((3_932, 68)));
     assert_eq!(scene.records(1), [(0, 4_000), (60_000, 1)]);
+}
+
+#[test]
+fn fetch_24_counts_a_record_that_is_touched_as_joined() {
+    for (address, length, first) in [(1, 1, (0, 2)), (1, 2, (0, 3)), (3, 1, (3, 2))] {
+        let mut scene = Scene::with_records(1, &evenly(64, 4, 1));
+        assert_eq!(scene.fetch(1, address, length), Ok((length, 0)));
+        assert!(scene.records(1).contains(&first));
+        assert_eq!(scene.fetch(1, 60_000, 1), Err(24));
+        assert_eq!(scene.end(1), Ok((64, 64 + length)));
+    }
+    let mut scene = Scene::with_records(1, &evenly(64, 4, 1));
+    assert_eq!(scene.fetch(1, 249, 3), Ok((3, 0)));
+    assert_eq!(scene.records(1)[62], (248, 5));
+    assert_eq!(scene.fetch(1, 60_000, 1), Ok((1, 0)));
+    assert_eq!(scene.fetch(1, 60_002, 1), Err(24));
+}
+
+#[test]
+fn fetch_23_and_24_of_a_span_that_touches_and_of_one_that_does_not() {
+    let mut records = evenly(64, 128, 64);
+    let mut scene = Scene::with_records(1, &records);
+    assert_eq!(scene.fetch(1, 64, 1), Err(23));
+    assert_eq!(scene.fetch(1, 66, 1), Err(23));
+
+    records[63].1 = 63;
+    let mut scene = Scene::with_records(1, &records);
+    assert_eq!(scene.fetch(1, 66, 1), Err(24));
+    assert_eq!(scene.fetch(1, 64, 1), Ok((1, 0)));
+    assert_eq!(scene.fetch(1, 65, 1), Err(23));
+    assert_eq!(scene.end(1), Ok((64, 4_096)));
+}
+
+#[test]
+fn fetch_joins_what_it_touches_on_either_side_and_on_both() {
+    for (span, left) in [
+        ((12, 3), vec![(10, 5), (20, 2), (30, 2)]),
+        ((18, 2), vec![(10, 2), (18, 4), (30, 2)]),
+        ((12, 8), vec![(10, 12), (30, 2)]),
+        ((12, 18), vec![(10, 22)]),
+        ((22, 8), vec![(10, 2), (20, 12)]),
+        ((13, 6), vec![(10, 2), (13, 6), (20, 2), (30, 2)]),
+        ((32, 1), vec![(10, 2), (20, 2), (30, 3)]),
+        ((9, 1), vec![(9, 3), (20, 2), (30, 2)]),
+        ((8, 1), vec![(8, 1), (10, 2), (20, 2), (30, 2)]),
+        ((12, 0), vec![(10, 2), (20, 2), (30, 2)]),
+        ((20, 0), vec![(10, 2), (20, 2), (30, 2)]),
+    ] {
+        let mut scene = Scene::with_records(1, &[(10, 2), (20, 2), (30, 2)]);
+        let held = scene.store[4_096..4_102].to_vec();
+        let expected = scene.window_at(span.0, span.1);
+        let fresh: u64 = left.iter().map(|record| record.1).sum::<u64>() - 6;
+        let replayed = span.1 as u64 - fresh;
+        assert_eq!(
+            scene.fetch(1, span.0 as u64, span.1 as u64),
+            Ok((fresh, replayed))
+        );
+        if replayed == 0 {
+            assert_eq!(scene.destination[..span.1], expected);
+        }
+        assert_eq!(scene.records(1), left);
+        for (place, address) in [10, 11, 20, 21, 30, 31].into_iter().enumerate() {
+            assert_eq!(scene.fetch(1, address, 1), Ok((0, 1)));
+            assert_eq!(scene.destination[0], held[place]);
+        }
+    }
+}
+
+#[test]
+fn fetch_joins_what_it_touches_at_the_first_and_at_the_last_address() {
+    let mut scene = Scene::with_records(0, &[(1, 1), (65_534, 1)]);
+    assert_eq!(scene.fetch(0, 0, 1), Ok((1, 0)));
+    assert_eq!(scene.fetch(0, 65_535, 1), Ok((1, 0)));
+    assert_eq!(scene.fetch(0, 65_536, 0), Ok((0, 0)));
+    assert_eq!(scene.records(0), [(0, 2), (65_534, 2)]);
+}
+
+#[test]
+fn fetch_closes_gaps_one_by_one_until_one_record_is_left() {
+    for order in [1, 25, 63] {
+        let mut scene = Scene::with_records(2, &evenly(64, 2, 1));
+        for turn in 0..63 {
+            let gap = (turn + 1) * order % 64;
+            assert_eq!(scene.fetch(2, 2 * gap - 1, 1), Ok((1, 0)));
+            assert_eq!(scene.records(2).len() as u64, 63 - turn);
+        }
+        assert_eq!(scene.records(2), [(0, 127)]);
+        assert_eq!(scene.end(2), Ok((1, 127)));
+    }
 }
 
 #[test]
@@ -287,7 +376,8 @@ fn fetch_leaves_the_store_behind_the_held_bytes_and_the_destination_behind_the_s
 
 #[test]
 fn fetch_of_no_bytes_changes_nothing() {
-    for records in [vec![], vec![(7, 4_096)], evenly(64, 128, 64)] {
+    let touched = vec![(8, 56), (65, 35), (101, 27), (4_103, 1), (65_535, 1)];
+    for records in [vec![], touched, vec![(7, 4_096)], evenly(64, 128, 64)] {
         let mut scene = Scene::with_records(3, &records);
         let before = scene.clone();
         for address in [0, 7, 8, 64, 100, 128, 4_103, 9_000, 65_535, 65_536] {

@@ -19,7 +19,8 @@ pub struct Delivery {
     pub fresh: u64,
     pub replayed: u64,
     pub bytes: Vec<u8>,
-    /// How many records the span met.
+    /// How many records the span met: those that share a byte with it or
+    /// touch it.
     pub met: usize,
 }
 
@@ -105,7 +106,7 @@ impl Model {
             return Err(23);
         }
         let labels: BTreeSet<u64> = held.values().map(|cell| cell.label).collect();
-        let met: BTreeSet<u64> = held.range(span.clone()).map(|(_, c)| c.label).collect();
+        let met = met_labels(held, address, length);
         let added = usize::from(length > 0);
         if labels.len() - met.len() + added > 64 {
             return Err(24);
@@ -199,6 +200,16 @@ impl Model {
     fn zero_part(&mut self, place: usize) {
         self.store[4_096 * place..4_096 * place + 4_096].fill(0);
     }
+}
+
+/// The labels at the addresses of a span, at the one before it and at the one
+/// behind it; none of an empty span.
+fn met_labels(held: &BTreeMap<u64, Cell>, address: u64, length: u64) -> BTreeSet<u64> {
+    if length == 0 {
+        return BTreeSet::new();
+    }
+    let about = address.saturating_sub(1)..=address + length;
+    held.range(about).map(|(_, cell)| cell.label).collect()
 }
 
 /// The place of a command, if there is one of that number.

@@ -43,12 +43,14 @@ impl Seen {
 }
 
 /// Values that are refused: the number of no command, a length that no call
-/// takes, and lengths that no store and no window may have.
+/// takes, lengths that no store and no window may have, and records that do
+/// not hold together.
 struct Flawed {
     command: u64,
     length: u64,
     store: usize,
     window: usize,
+    records: [(u64, u64); 2],
 }
 
 /// Just past the limits.
@@ -57,6 +59,7 @@ const SLIGHT: Flawed = Flawed {
     length: 4_097,
     store: 32_767,
     window: 65_537,
+    records: [(40, 8), (48, 8)],
 };
 
 /// Far from the limits.
@@ -65,11 +68,12 @@ const GROSS: Flawed = Flawed {
     length: 8_192,
     store: 0,
     window: 100_000,
+    records: [(60_000, 60_000), (0, 0)],
 };
 
 /// Breaks the book in a command that the call is not about.
-fn break_book(scene: &mut Scene) {
-    scene.book.commands[6].entries[63].start = 1;
+fn break_book(scene: &mut Scene, form: &Flawed) {
+    scene.book.commands[6] = open_with(&form.records);
 }
 
 /// The address at which a span of that length ends with the window, or with
@@ -97,7 +101,7 @@ fn begin_gives_the_lowest() {
                 scene.store.resize(form.store, 0);
             }
             if has(20) {
-                break_book(&mut scene);
+                break_book(&mut scene, &form);
             }
             let command = if has(6) { form.command } else { 3 };
             seen.check(scene.begin(command), &flaws);
@@ -121,7 +125,7 @@ fn end_gives_the_lowest() {
                 scene.store.resize(form.store, 0);
             }
             if has(20) {
-                break_book(&mut scene);
+                break_book(&mut scene, &form);
             }
             let command = if has(6) { form.command } else { 3 };
             seen.check(scene.end(command), &flaws);
@@ -154,7 +158,7 @@ fn fetch_gives_the_lowest() {
                 scene.store.resize(form.store, 0);
             }
             if has(20) {
-                break_book(&mut scene);
+                break_book(&mut scene, &form);
             }
             let length = if has(4) { form.length } else { 10 };
             let missing = if gross { length as usize } else { 1 };
@@ -197,7 +201,7 @@ fn own_write_gives_the_lowest() {
                 scene.begin(3).unwrap();
             }
             if has(20) {
-                break_book(&mut scene);
+                break_book(&mut scene, &form);
             }
             let length = if has(4) { form.length } else { 10 };
             let command = if has(6) { form.command } else { 3 };
@@ -225,7 +229,7 @@ fn show_gives_the_lowest() {
                 scene.book.commands[3] = open_with(&[(5, 2), (9, 1)]);
             }
             if has(20) {
-                break_book(&mut scene);
+                break_book(&mut scene, &form);
             }
             let command = if has(6) { form.command } else { 3 };
             let index = match (has(25), gross) {

@@ -1,4 +1,4 @@
-//! 2,000 lists of calls from the fresh book, 250 of each profile. After each
+//! 2,250 lists of calls from the fresh book, 250 of each profile. After each
 //! call the reply, the book, the whole store, the window and the destination
 //! are held against the model.
 
@@ -190,7 +190,7 @@ fn many_small_spans_up_to_the_last_record() {
         seed: 1,
         lists: 250,
         calls: 160,
-        window_length: 1_000,
+        window_length: 1_500,
         commands: 1,
         ends: 200,
         span: spans::small,
@@ -241,6 +241,21 @@ fn touching_spans_and_some_across_the_borders() {
         span: spans::touching,
     });
     assert!(tally.joins > 250 && tally.mixed > 1_000, "{tally:?}");
+}
+
+#[test]
+fn single_bytes_in_a_row_and_those_between() {
+    let tally = run(&Profile {
+        seed: 10,
+        lists: 250,
+        calls: 250,
+        window_length: 260,
+        commands: 1,
+        ends: 250,
+        span: spans::every_other,
+    });
+    assert!(tally.refused(24) > 1_000, "{tally:?}");
+    assert!(tally.joins > 1_000, "{tally:?}");
 }
 
 #[test]

@@ -1,5 +1,6 @@
-//! The marked situations A to K of 01 (the agreed scope; docs/RULES.md has its
-//! rules), each for all eight commands.
+//! The marked situations A to K of 01 (the agreed scope), B as F-1 of 02 (the
+//! agreed changes) has it, each for all eight commands. docs/RULES.md has their
+//! rules.
 
 use reference::frames::read_frame;
 
@@ -31,7 +32,7 @@ fn situation_a_a_wider_span_replays_the_middle() {
 }
 
 #[test]
-fn situation_b_touching_records_stay_two_until_a_span_joins_them() {
+fn situation_b_a_span_that_touches_a_record_is_joined_with_it() {
     for command in 0..8 {
         let mut scene = Scene::with_open(command);
         let first = scene.window_at(0, 4);
@@ -40,7 +41,7 @@ fn situation_b_touching_records_stay_two_until_a_span_joins_them() {
         let second = scene.window_at(4, 4);
         assert_eq!(scene.fetch(command, 4, 4), Ok((4, 0)));
         assert_eq!(scene.destination[..4], second);
-        assert_eq!(scene.records(command), [(0, 4), (4, 4)]);
+        assert_eq!(scene.records(command), [(0, 8)]);
 
         change_window(&mut scene);
         let expected = [&first[2..], &second[..2]].concat();

@@ -25,7 +25,7 @@ fn judge(state: &[u16], store_len: usize, command: usize) -> BeginAnswer
     if store_len != CacheState::STORE {
         return BeginAnswer::Refused(Refusal::StoreWrongSize);
     }
-    if !words::holds::holds(state) {
+    if !integrity::holds(state) {
         return BeginAnswer::Refused(Refusal::StateBroken);
     }
     if is_open(state, command) {

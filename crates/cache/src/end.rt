@@ -9,8 +9,8 @@ use state::Refusal;
 use store::part;
 use words::command::is_open;
 use words::command::reset;
+use words::entries::held_from;
 use words::entries::used;
-use words::search::held_from;
 
 pub enum EndAnswer {
     // how many records and distinct bytes the command had
@@ -28,7 +28,7 @@ fn judge(state: &[u16], store_len: usize, command: usize) -> EndAnswer
     if store_len != CacheState::STORE {
         return EndAnswer::Refused(Refusal::StoreWrongSize);
     }
-    if !words::holds::holds(state) {
+    if !integrity::holds(state) {
         return EndAnswer::Refused(Refusal::StateBroken);
     }
     if !is_open(state, command) {

@@ -33,7 +33,7 @@ fn judge(
     if range::outside(window_len, address, size) {
         return WriteAnswer::Refused(Refusal::OutsideWindow);
     }
-    if !words::holds::holds(state) {
+    if !integrity::holds(state) {
         return WriteAnswer::Refused(Refusal::StateBroken);
     }
     if !is_open(state, command) {

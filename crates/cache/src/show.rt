@@ -22,7 +22,7 @@ fn look(state: &[u16], command: usize, index: usize) -> ShowAnswer
     if CacheState::COMMANDS <= command {
         return ShowAnswer::Refused(Refusal::CommandTooHigh);
     }
-    if !words::holds::holds(state) {
+    if !integrity::holds(state) {
         return ShowAnswer::Refused(Refusal::StateBroken);
     }
     if !is_open(state, command) {

@@ -31,7 +31,7 @@ use Rattle.store.proofs.Parts.{own-bytes}
 use Rattle.cache.specs.Fetch.{admitChecks, fetchSays, fetchState, fetchStore, fetchDest}
 use Rattle.fetch.specs.declared.FetchAnswer.{FetchAnswer}
 use Rattle.fetch.specs.Fetch.{fetchReply}
-use Rattle.fetch.specs.Plan.{behindOf, bytesOf}
+use Rattle.admission.specs.Plan.{behindOf, bytesOf}
 
 -- what a fetch answers, and what it leaves of state, store and destination
 pub record Leaves (s : State) (store window dest : List ℕ) (c a n : ℕ) (r : FetchAnswer) (s′ : State) (store′ dest′ : List ℕ) : Type 0 where

@@ -25,9 +25,9 @@ use Rattle.store.proofs.Parts.{from-zero}
 use Rattle.cache.specs.Fetch.{admitChecks, fetchSays}
 use Rattle.fetch.specs.declared.FetchAnswer.{FetchAnswer}
 use Rattle.fetch.specs.declared.FetchAnswer.the-variants.{Done, Refused}
-use Rattle.fetch.specs.declared.plan.Finding.{Finding}
-use Rattle.fetch.specs.declared.plan.Finding.the-variants.{Span, Bytes, Records}
-use Rattle.fetch.specs.Plan.{Plan, Plans}
+use Rattle.admission.specs.declared.plan.Finding.{Finding}
+use Rattle.admission.specs.declared.plan.Finding.the-variants.{Span, Bytes, Records}
+use Rattle.admission.specs.Plan.{Plan, Plans}
 use Rattle.fetch.specs.Fetch.{Fetches}
 use Rattle.fetch.proofs.Fetching.{Leaves, Admits, admits, barred-fetch, none-fetched, fresh-most, over-bytes, over-records, span-fits, place-fits, span-fetched}
 

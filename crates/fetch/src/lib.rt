@@ -9,17 +9,14 @@ ghost use Rattle.cache.specs.Fetch.{admitChecks};
 ghost use Rattle.state.specs.Limits.{stateWords};
 ghost use Rattle.state.specs.Words.{stateOf};
 ghost use Rattle.fetch.specs.Fetch.{Fetches};
-use admit::Admission;
-use admit::admit;
-use plan::Finding;
-use plan::planned;
+use admission::admit::Admission;
+use admission::admit::admit;
+use admission::plan::Finding;
+use admission::plan::planned;
+use join::splice::splice;
 use state::CacheState;
 use state::Refusal;
 use store::part;
-use words::splice::splice;
-
-mod admit;
-mod plan;
 
 pub enum FetchAnswer {
     // how many bytes of the span were fresh, and how many were replayed

@@ -1,4 +1,5 @@
--- After every list an open command holds what it has fetched since its begin, packed at the front of its part.
+-- After every list the records of an open command are the runs of what it has fetched since its begin, and the bytes of these addresses
+-- stand packed at the front of its part.
 use Prim.Native.Nat.{ℕ, _+_, _≤_}
 use native.Mathlib.Omega.{arith}
 use mathlib.Core.Path.{_≡_, refl, ap, sym, _∙_}
@@ -12,12 +13,13 @@ use Rattle.state.specs.Records.{inSpan, held, place, addresses, total}
 use Rattle.state.specs.State.{commandOf, recordsOf, isOpen}
 use Rattle.state.proofs.Laws.{map-held, packed-back}
 use Rattle.state.proofs.Commands.{Kept, kept, open-below}
+use Rattle.state.proofs.Runs.{runs-same, records-runs}
 use Rattle.store.specs.Store.{partStart, packedBytes}
 use Rattle.store.proofs.Parts.{packed-part}
 use Rattle.cache.specs.Runs.{Machine, start, ran}
 use Rattle.history.specs.Journal.{Deed, began, fetched, ended, other, deed, journal, backwards}
 use Rattle.history.specs.Firsts.{Value, none, first, orElse, Memory, remember, memory, isKnown, finds, fetchedSince, recall}
-use Rattle.history.specs.Claims.{MemorySearch, StoredBytes}
+use Rattle.history.specs.Claims.{MemorySearch, RecordsTold, StoredBytes}
 use Rattle.history.proofs.Sound.{Sound, sound-start, sound-ran}
 
 -- The memory and the search
@@ -67,11 +69,19 @@ module _ (m : Machine) (mem : Memory) (S : Sound m mem) (c : ℕ) (o : isOpen (m
       packed-part (m .state) (m .store) c (total rs) part-fits
       ∙ sym (map-held (λ x. recall (mem c x)) (λ x. getD (m .store) (partStart c + place rs x) 0) rs (λ x h. rw (S .known c x o, h)) ∙ packed-back (m .store) (partStart c) 0 rs (K .up) part-fits)
 
+pub records-told : RecordsTold
+records-told store ps c o =
+    let past = backwards [] (journal store ps) in
+    let m = ran (start store) ps in
+    let S = sound-ran [] (start store) ps (sound-start store) in
+    let rs = recordsOf (m .state) c in
+    records-runs rs (K m (memory past) S c o .up)
+    ∙ runs-same (held rs) (fetchedSince past c) 0 65536 (λ x h. held-known m (memory past) S c o x ∙ memory-search past c x)
+
 pub stored-bytes : StoredBytes
 stored-bytes store ps c o =
     let S = sound-ran [] (start store) ps (sound-start store) in
     record {
-      records = held-known (ran (start store) ps) (memory (backwards [] (journal store ps))) S c o;
       within = λ k h. omega (arith, part-fits (ran (start store) ps) (memory (backwards [] (journal store ps))) S c o);
       bytes = part-known (ran (start store) ps) (memory (backwards [] (journal store ps))) S c o;
     }

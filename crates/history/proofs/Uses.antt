@@ -1,23 +1,27 @@
--- The equal-runs rule at work: a count of 4, at address 2, is fetched and checked, the host writes over it, and the list behind
--- the count is fetched together with it.
-use Prim.Native.Nat.{ℕ}
+-- Claims at work. The equal-runs rule: a count of 4, at address 2, is fetched and checked, the host writes over it, and the list behind
+-- the count is fetched together with it. Records told: what a command holds.
+use Prim.Native.Nat.{ℕ, _<_}
 use native.Mathlib.Omega.{arith}
-use mathlib.Core.Path.{_≡_, refl, ap}
+use mathlib.Core.Path.{_≡_, refl, ap, _∙_}
 use mathlib.Core.List.{List, [], _∷_}
+use mathlib.Core.Bool.{true}
 use mathlib.Core.Logic.{_≢_}
 use lib.ListN.{getD, replicate}
 use Rattle.octets.specs.Lists.{all}
+use Rattle.state.specs.declared.Record.{Record}
 use Rattle.state.specs.Records.{held, span, addresses, total, place, countFresh, keep, lowest, highest, joined}
-use Rattle.state.specs.State.{ascending, commandHolds, holds}
+use Rattle.state.specs.State.{recordsOf, isOpen, ascending, commandHolds, holds}
 use Rattle.state.specs.Verdict.{verdict, accepted}
+use Rattle.state.proofs.Runs.{runs-are-runs}
 use Rattle.cache.specs.Begin.{beginSays, beginState, beginStore}
 use Rattle.cache.specs.Fetch.{fetchSays, fetchState, fetchStore, fetchDest}
 use Rattle.cache.specs.HostWrite.{hostSays}
-use Rattle.cache.specs.Runs.{Call, begin, fetch, hostWrite, start, along, delivers}
-use Rattle.history.specs.Journal.{journal, told}
-use Rattle.history.specs.Firsts.{remember, memory, First, firstsAmong, firstsBy, firsts}
+use Rattle.cache.specs.Runs.{Call, begin, fetch, hostWrite, start, along, ran, delivers}
+use Rattle.history.specs.Journal.{journal, told, backwards}
+use Rattle.history.specs.Firsts.{remember, memory, fetchedSince, First, firstsAmong, firstsBy, firsts}
 use Rattle.history.specs.Claims.{common}
 use Rattle.history.proofs.EqualRuns.{equal-runs}
+use Rattle.history.proofs.Stored.{records-told}
 
 store : List ℕ
 store = replicate 32768 0
@@ -59,3 +63,10 @@ unfolding retire common
 other-delivered h =
     let runs = equal-runs store (retire 4 40) (retire 5 40) refl in
     other-firsts (runs .exactly .0 (runs .answers, h))
+
+-- Records told: an address below 65,536 is in a record of an open command exactly if the command has fetched it since its begin.
+held-told :
+    (store : List ℕ) (ps : List Call) (c x : ℕ) → isOpen (ran (start store) ps .state) c ≡ true → x < 65536
+    → held (recordsOf (ran (start store) ps .state) c) x ≡ fetchedSince (backwards [] (journal store ps)) c x
+held-told store ps c x o below =
+    ap (λ (rs : List Record). held rs x) (records-told store ps c o) ∙ runs-are-runs (fetchedSince (backwards [] (journal store ps)) c) .same x below

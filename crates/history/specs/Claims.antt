@@ -1,6 +1,6 @@
 -- The claims about whole lists of calls, refused ones included, from the fresh state and a store of any bytes and any length; and
 -- at the end those about one call, whatever state and store it is given. Demands are those of docs/EVIDENCE.md, and 01 is the agreed
--- scope (docs/RULES.md has its rules, and says what Midas is).
+-- scope and 02 the agreed changes (docs/RULES.md has their rules, and says what Midas is).
 use Prim.Native.Nat.{ℕ, _+_, _-_, _<_}
 use mathlib.Core.Path.{_≡_}
 use mathlib.Core.List.{List, [], _∷_, map}
@@ -10,7 +10,8 @@ use lib.Dec.{eqb}
 use lib.ListN.{length, getD, take, drop, replicate}
 use Rattle.octets.specs.Lists.{all, part}
 use Rattle.state.specs.Limits.{heldLimit}
-use Rattle.state.specs.Records.{inSpan, held, addresses, total}
+use Rattle.state.specs.Records.{inSpan, addresses, total}
+use Rattle.state.specs.Runs.{runs}
 use Rattle.state.specs.State.{holds, hasShape, commandOf, recordsOf, isOpen}
 use Rattle.state.specs.Words.{stateOf}
 use Rattle.state.specs.Verdict.{refused, replied, accepted}
@@ -36,13 +37,19 @@ EndSum = (store : List ℕ) (ps : List Call) → told bytesReplied [] (journal s
 abbrev pub MemorySearch : Type 0
 MemorySearch = (past : List Event) (c x : ℕ) → isKnown (memory past c x) ≡ fetchedSince past c x
 
--- Records and stored bytes: after every list the records of an open command hold just the addresses that it has fetched since its
--- begin, and the front of its part has the values first fetched, packed in the order of the addresses.
+-- Records, F-1's rule told from the calls: after every list the records of an open command are the longest unbroken runs of the addresses
+-- that it has fetched since its begin.
+abbrev pub RecordsTold : Type 0
+RecordsTold =
+    (store : List ℕ) (ps : List Call) (c : ℕ) → isOpen (ran (start store) ps .state) c ≡ true
+    → recordsOf (ran (start store) ps .state) c ≡ runs (fetchedSince (backwards [] (journal store ps)) c)
+
+-- Stored bytes: after every list the front of an open command's part has, for each address of its records, the value first fetched there,
+-- packed in the order of the addresses.
 abbrev pub memoryAfter : List ℕ → List Call → Memory
 memoryAfter store ps = memory (backwards [] (journal store ps))
 
 pub record Holding (store : List ℕ) (ps : List Call) (c : ℕ) : Type 0 where
-  pub records : (x : ℕ) → held (recordsOf (ran (start store) ps .state) c) x ≡ isKnown (memoryAfter store ps c x)
   pub within : (k : ℕ) → k < total (recordsOf (ran (start store) ps .state) c) → location (ran (start store) ps .state) c k < length (ran (start store) ps .store)
   pub bytes :
       packedBytes (ran (start store) ps .state) (ran (start store) ps .store) c (total (recordsOf (ran (start store) ps .state) c))

@@ -1,9 +1,10 @@
 -- Case analysis for the records: where a record stands to a span and to an address, and what an ascending list says of its first record.
-use Prim.Native.Nat.{ℕ, _≤_, _<_}
+use Prim.Native.Nat.{ℕ, suc, _≤_, _<_}
 use mathlib.Core.Path.{_≡_, refl}
-use mathlib.Core.List.{List, _∷_}
+use mathlib.Core.List.{List, [], _∷_}
 use mathlib.Core.Bool.{Bool, true, false, and-eq-true-iff, and-false}
 use native.Mathlib.Nat.{lt-of-not-le, not-le-of-lt}
+use native.Mathlib.Omega.{arith}
 use lib.Dec.{leb}
 use borrow.Author.Tests.{ltb-true, leb-true, leb-false, lt-ltb, le-ltb, le-leb, lt-leb}
 use Rattle.state.specs.declared.Record.{Record}
@@ -11,19 +12,19 @@ use Rattle.octets.proofs.Lists.{both}
 use Rattle.state.specs.Records.{past, inSpan}
 use Rattle.state.specs.State.{ascending}
 
--- a record ends before the span from a to e, shares a byte with it, or begins after it
+-- a record ends before the span from a to e, shares a byte with it or touches it, or begins after it
 pub data Side (a e : ℕ) (r : Record) : Type 0 where
-  before : past r ≤ a → Side a e r
-  meets : r .start < e → a < past r → Side a e r
-  after : e ≤ r .start → Side a e r
+  before : past r < a → Side a e r
+  meets : r .start ≤ e → a ≤ past r → Side a e r
+  after : e < r .start → Side a e r
 
 pub side : (a e : ℕ) (r : Record) → Side a e r
-side a e r = go (leb (past r) a) refl (leb e (r .start)) refl
+side a e r = go (leb a (past r)) refl (leb (r .start) e) refl
   where
-    go : (b : Bool) → leb (past r) a ≡ b → (c : Bool) → leb e (r .start) ≡ c → Side a e r
-    go true p c q = before (leb-true _ _ p)
-    go false p true q = after (leb-true _ _ q)
-    go false p false q = meets (leb-false _ _ q) (leb-false _ _ p)
+    go : (b : Bool) → leb a (past r) ≡ b → (c : Bool) → leb (r .start) e ≡ c → Side a e r
+    go false p c q = before (leb-false _ _ p)
+    go true p false q = after (leb-false _ _ q)
+    go true p true q = meets (leb-true _ _ q) (leb-true _ _ p)
 
 -- an address lies above a record, in it, or below it
 pub data Lies (x : ℕ) (r : Record) : Type 0 where
@@ -52,7 +53,7 @@ pub record Ascends (lo : ℕ) (r : Record) (rs : List Record) : Type 0 where
   pub from : lo ≤ r .start
   pub some : 0 < r .len
   pub fits : past r ≤ 65536
-  pub rest : ascending (past r) rs ≡ true
+  pub rest : ascending (suc (past r)) rs ≡ true
 
 pub ascends : (lo : ℕ) (r : Record) (rs : List Record) → ascending lo (r ∷ rs) ≡ true → Ascends lo r rs
 unfolding ascending
@@ -67,6 +68,11 @@ ascending-cons h = both (both (both (le-leb _ _ (h .from)) (lt-ltb _ _ (h .some)
 -- an ascending list ascends from any bound that is not above its first record
 pub ascending-from : {lo : ℕ} {r : Record} {rs : List Record} (floor : ℕ) → Ascends lo r rs → floor ≤ r .start → ascending floor (r ∷ rs) ≡ true
 ascending-from floor u h = ascending-cons (record { from = h; some = u .some; fits = u .fits; rest = u .rest })
+
+pub ascending-lower : (lo hi : ℕ) (rs : List Record) → lo ≤ hi → ascending hi rs ≡ true → ascending lo rs ≡ true
+unfolding ascending
+ascending-lower lo hi [] h up = refl
+ascending-lower lo hi (r ∷ rs) h up = let u = ascends hi r rs up in ascending-from lo u (omega (arith, u .from))
 
 -- an address in a record, below it and above it
 pub inside : (r : Record) (x : ℕ) → r .start ≤ x → x < past r → inSpan (r .start) (r .len) x ≡ true

@@ -15,7 +15,7 @@ use Rattle.state.specs.declared.Meeting.{Meeting}
 use Rattle.state.specs.Records.{past, inSpan, held, total, place, highest, fresh}
 use Rattle.state.specs.State.{noRecord, ascending}
 use Rattle.state.specs.Cut.{Parted, Cut}
-use Rattle.state.proofs.Cases.{Ascends, ascends, ascending-from, inside as within, above}
+use Rattle.state.proofs.Cases.{Ascends, ascends, ascending-from, ascending-lower, inside as within, above}
 use Rattle.state.proofs.Merge.{between}
 use Rattle.state.proofs.Places.{place-all, place-low, held-low, fresh-place, place-middle, middle-above}
 use Rattle.state.proofs.Laws.{held-joined, ascending-joined, total-append}
@@ -75,18 +75,18 @@ unfolding highest
 front-ends e lo [] r ys low up = omega (arith, ascends lo r ys up)
 front-ends e lo (t ∷ xs) r ys low up =
     let u = ascends lo t (xs ++ r ∷ ys) up in
-    omega (arith, middle-above (past t) xs r ys (u .rest), front-ends e (past t) xs r ys (omega arith) (u .rest))
+    omega (arith, middle-above (suc (past t)) xs r ys (u .rest), front-ends e (suc (past t)) xs r ys (omega arith) (u .rest))
 
 starts-above : (lo : ℕ) (rs : List Record) (i : ℕ) → ascending lo rs ≡ true → i < length rs → lo ≤ getD rs i noRecord .start
 starts-above lo [] i up h = absurd (not-suc-le-zero h)
 starts-above lo (r ∷ rs) zero up h = ascends lo r rs up .from
 starts-above lo (r ∷ rs) (suc i) up h =
     let u = ascends lo r rs up in
-    omega (arith, starts-above (past r) rs i (u .rest) (omega arith))
+    omega (arith, starts-above (suc (past r)) rs i (u .rest) (omega arith))
 
 back-ascends : (lo : ℕ) (xs : List Record) (r : Record) (ys : List Record) → ascending lo (xs ++ r ∷ ys) ≡ true → Ascends (r .start) r ys
 back-ascends lo [] r ys up = let u = ascends lo r ys up in record { from = omega arith; some = u .some; fits = u .fits; rest = u .rest }
-back-ascends lo (t ∷ xs) r ys up = back-ascends (past t) xs r ys (ascends lo t (xs ++ r ∷ ys) up .rest)
+back-ascends lo (t ∷ xs) r ys up = back-ascends (suc (past t)) xs r ys (ascends lo t (xs ++ r ∷ ys) up .rest)
 
 -- What an address that parts the records tells
 
@@ -136,7 +136,7 @@ module _ (rs : List Record) (up : ascending 0 rs ≡ true) (q : ℕ) (inside : q
   upto = ap (highest 0) (take-suc rs q noRecord inside) ∙ highest-append 0 (take q rs) r
 
   pub parted-past : Parted rs (suc q) (past r)
-  parted-past = record { before = omega (arith, upto, parted-start .before); behind = at-record .rest }
+  parted-past = record { before = omega (arith, upto, parted-start .before); behind = ascending-lower (past r) (suc (past r)) (drop (suc q) rs) (omega arith) (at-record .rest) }
 
   pub past-below : (x : ℕ) → Parted rs (suc q) x → past r ≤ x
   past-below x P = omega (arith, upto, P .before)
@@ -187,7 +187,7 @@ module _ (rs : List Record) (a n : ℕ) (m : Meeting) (F : Found rs a (suc n) m)
   back-high : ascending (m .high) (drop (m .last) rs) ≡ true
   back-high =
       let e : past u ≡ m .high = omega (arith, wide) in
-      subst (λ (x : ℕ). ascending x (drop (m .last) rs) ≡ true) e (at-union .rest)
+      ascending-lower (m .high) (suc (past u)) (drop (m .last) rs) (omega arith) (at-union .rest)
 
   -- what is held stays held
   stays : (x : ℕ) → held rs x ≡ true → held rs′ x ≡ true

@@ -1,5 +1,5 @@
--- What the search finds where the records ascend: a front that lies before the span, a middle that shares a byte with it, and a back
--- that starts behind it, so that `joined` puts one record in the place of the middle.
+-- What the search finds where the records ascend: a front that lies before the span, a middle that shares a byte with it or touches it,
+-- and a back that starts behind it, so that `joined` puts one record in the place of the middle.
 use Prim.Native.Nat.{ℕ, suc, _+_, _-_, _≤_, _<_, max}
 use native.Mathlib.Omega.{arith}
 use mathlib.Core.Path.{_≡_, refl, ap, ap₂, _∙_}
@@ -51,7 +51,7 @@ module _ (a e : ℕ) (wide : a < e) where
     splits = is;
   }
 
-  split-stop : (lo : ℕ) (rs : List Record) (m : Meeting) → ascending lo rs ≡ true → e ≤ lo → Split a e rs m m
+  split-stop : (lo : ℕ) (rs : List Record) (m : Meeting) → ascending lo rs ≡ true → e < lo → Split a e rs m m
   split-stop lo rs m up h = stopped rs m (merged-past a e wide lo rs (m .low) (m .high) up h)
 
   split-none : (m : Meeting) → Split a e [] m (searched a e [] m)
@@ -59,7 +59,7 @@ module _ (a e : ℕ) (wide : a < e) where
   split-none m = stopped [] m (merged-nil a e wide (m .low) (m .high))
 
   -- a first record before the span joins the front
-  before-first : (r : Record) (rs : List Record) (m : Meeting) → past r ≤ a
+  before-first : (r : Record) (rs : List Record) (m : Meeting) → past r < a
       → Split a e rs (moved r m) (searched a e rs (moved r m))
       → Split a e (r ∷ rs) m (searched a e (r ∷ rs) m)
   unfolding total
@@ -82,7 +82,7 @@ module _ (a e : ℕ) (wide : a < e) where
   abbrev Met : List Record → Meeting → Type 0
   Met rs m = (S : Split a e rs m (searched a e rs m)) × (S .front ≡ 0)
 
-  meets-first : (r : Record) (rs : List Record) (m : Meeting) → r .start < e → a < past r → past r ≤ windowLimit
+  meets-first : (r : Record) (rs : List Record) (m : Meeting) → r .start ≤ e → a ≤ past r → past r ≤ windowLimit
       → Met rs (widened r m)
       → Met (r ∷ rs) m
   unfolding total
@@ -110,20 +110,20 @@ module _ (a e : ℕ) (wide : a < e) where
   split-met : (lo : ℕ) (rs : List Record) (m : Meeting) → ascending lo rs ≡ true → a < lo → Met rs m
   unfolding stopped split-stop split-none
   split-met lo [] m up far = (split-none m, refl)
-  split-met lo (r ∷ rs) m up far = let u = ascends lo r rs up in go u (side a e r) (λ n. split-met (past r) rs n (u .rest))
+  split-met lo (r ∷ rs) m up far = let u = ascends lo r rs up in go u (side a e r) (λ n. split-met (suc (past r)) rs n (u .rest))
     where
-      go : Ascends lo r rs → Side a e r → ((n : Meeting) → a < past r → Met rs n) → Met (r ∷ rs) m
+      go : Ascends lo r rs → Side a e r → ((n : Meeting) → a < suc (past r) → Met rs n) → Met (r ∷ rs) m
       go u (before k) ih = absurd (omega arith)
-      go u (meets j k) ih = meets-first r rs m j k (u .fits) (ih (widened r m) k)
+      go u (meets j k) ih = meets-first r rs m j k (u .fits) (ih (widened r m) (omega arith))
       go u (after k) ih = rw (search-stops a e r rs m k) (split-stop (r .start) (r ∷ rs) m (ascending-from (r .start) u (omega arith)) k, refl)
 
   split : (lo : ℕ) (rs : List Record) (m : Meeting) → ascending lo rs ≡ true → Split a e rs m (searched a e rs m)
   split lo [] m up = split-none m
-  split lo (r ∷ rs) m up = let u = ascends lo r rs up in go u (side a e r) (λ n. split (past r) rs n (u .rest))
+  split lo (r ∷ rs) m up = let u = ascends lo r rs up in go u (side a e r) (λ n. split (suc (past r)) rs n (u .rest))
     where
       go : Ascends lo r rs → Side a e r → ((n : Meeting) → Split a e rs n (searched a e rs n)) → Split a e (r ∷ rs) m (searched a e (r ∷ rs) m)
       go u (before k) ih = before-first r rs m k (ih (moved r m))
-      go u (meets j k) ih = meets-first r rs m j k (u .fits) (split-met (past r) rs (widened r m) (u .rest) k) .0
+      go u (meets j k) ih = meets-first r rs m j k (u .fits) (split-met (suc (past r)) rs (widened r m) (u .rest) (omega arith)) .0
       go u (after k) ih = rw (search-stops a e r rs m k) (split-stop (r .start) (r ∷ rs) m (ascending-from (r .start) u (omega arith)) k)
 
 -- What the search finds of a whole list, for the span of n + 1 addresses from a on.

@@ -48,26 +48,26 @@ length-addresses (r ∷ rs) = rw (length-append, length-span, length-addresses r
 pub place-below : (lo : ℕ) (rs : List Record) (x : ℕ) → ascending lo rs ≡ true → held rs x ≡ true → place rs x < total rs
 unfolding held place total
 place-below lo [] x up h = absurd (false≢true h)
-place-below lo (r ∷ rs) x up h = let u = ascends lo r rs up in go u (place-below (past r) rs x (u .rest)) (lies x r)
+place-below lo (r ∷ rs) x up h = let u = ascends lo r rs up in go u (place-below (suc (past r)) rs x (u .rest)) (lies x r)
   where
     go : Ascends lo r rs → (held rs x ≡ true → place rs x < total rs) → Lies x r → place (r ∷ rs) x < total (r ∷ rs)
     go u ih (over k) = omega (arith, ih (rw (above r x k) at h))
-    go u ih (within j k) = omega (arith, place-low (past r) rs x (u .rest) (omega arith))
+    go u ih (within j k) = omega (arith, place-low (suc (past r)) rs x (u .rest) (omega arith))
     go u ih (beneath k) = omega (arith, ih (rw (below r x k) at h))
 
 -- and what stands at that place, of a list made address by address, is what was made of that address
 pub at-place : (f : ℕ → ℕ) (d lo : ℕ) (rs : List Record) (x : ℕ) → ascending lo rs ≡ true → held rs x ≡ true → getD (map f (addresses rs)) (place rs x) d ≡ f x
 unfolding held place addresses
 at-place f d lo [] x up h = absurd (false≢true h)
-at-place f d lo (r ∷ rs) x up h = let u = ascends lo r rs up in go u (at-place f d (past r) rs x (u .rest)) (lies x r)
+at-place f d lo (r ∷ rs) x up h = let u = ascends lo r rs up in go u (at-place f d (suc (past r)) rs x (u .rest)) (lies x r)
   where
     go : Ascends lo r rs → (held rs x ≡ true → getD (map f (addresses rs)) (place rs x) d ≡ f x) → Lies x r
         → getD (map f (addresses (r ∷ rs))) (place (r ∷ rs) x) d ≡ f x
     go u ih (over k) = rw (place-all r x k, span-past) (ih (rw (above r x k) at h))
     go u ih (within j k) =
-        let e : min (r .len) (x - r .start) + place rs x ≡ x - r .start = omega (arith, place-low (past r) rs x (u .rest) (omega arith)) in
+        let e : min (r .len) (x - r .start) + place rs x ≡ x - r .start = omega (arith, place-low (suc (past r)) rs x (u .rest) (omega arith)) in
         rw e (span-at f d _ _ _ _ (omega arith) ∙ ap f (omega arith))
-    go u ih (beneath k) = absurd (false≢true (sym (held-low (past r) rs x (u .rest) (omega arith)) ∙ rw (below r x k) at h))
+    go u ih (beneath k) = absurd (false≢true (sym (held-low (suc (past r)) rs x (u .rest) (omega arith)) ∙ rw (below r x k) at h))
 
 -- two functions that agree at every held address make the same list
 pub map-held : (f g : ℕ → ℕ) (rs : List Record) → ((x : ℕ) → held rs x ≡ true → f x ≡ g x) → map f (addresses rs) ≡ map g (addresses rs)
@@ -111,16 +111,16 @@ packed-back l k lo (r ∷ rs) up fits =
     let u = ascends lo r rs up in
     let own = map-read (λ x. getD l (k + place (r ∷ rs) x) 0) l k (r .start) (r .len) (omega arith) (λ i h. ap (λ (j : ℕ). getD l j 0) (own-place u i h)) in
     let moved = map-held (λ x. getD l (k + place (r ∷ rs) x) 0) (λ x. getD l (k + r .len + place rs x) 0) rs (λ x h. ap (λ (j : ℕ). getD l j 0) (later-place u x h)) in
-    let rest = packed-back l (k + r .len) (past r) rs (u .rest) (omega arith) in
+    let rest = packed-back l (k + r .len) (suc (past r)) rs (u .rest) (omega arith) in
     map-append (λ x. getD l (k + place (r ∷ rs) x) 0) (span (r .start) (r .len)) (addresses rs)
     ∙ ap₂ _++_ own (moved ∙ rest ∙ ap (take (total rs)) (sym (drop-drop (r .len) k l)))
     ∙ sym (take-add (r .len) (total rs) (drop k l))
   where
     own-place : Ascends lo r rs → (i : ℕ) → i < r .len → k + (min (r .len) (r .start + i - r .start) + place rs (r .start + i)) ≡ k + i
-    own-place u i h = omega (arith, place-low (past r) rs (r .start + i) (u .rest) (omega arith))
+    own-place u i h = omega (arith, place-low (suc (past r)) rs (r .start + i) (u .rest) (omega arith))
 
     later-place : Ascends lo r rs → (x : ℕ) → held rs x ≡ true → k + (min (r .len) (x - r .start) + place rs x) ≡ k + r .len + place rs x
-    later-place u x h = omega (arith, held-above (past r) rs x (u .rest) h)
+    later-place u x h = omega (arith, held-above (suc (past r)) rs x (u .rest) h)
 
 -- Two spans share a byte exactly if `shares` says so.
 pub shares-some :

@@ -13,3 +13,4 @@ pub mod Entries
 pub mod Packed
 pub mod Cut
 pub mod Join
+pub mod Runs

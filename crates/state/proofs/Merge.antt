@@ -18,7 +18,7 @@ abbrev pub between : ℕ → ℕ → Record
 between l h = record { start = l; len = h - l }
 
 abbrev pub met : ℕ → ℕ → List Record → List Record
-met a e = keep (λ r. ltb (r .start) e && ltb a (past r))
+met a e = keep (λ r. leb (r .start) e && leb a (past r))
 
 -- the records with the span from a to e joined, where the union so far reaches from l to h: `joined` is the case l = a, h = e
 unfoldable pub merged : ℕ → ℕ → List Record → ℕ → ℕ → List Record
@@ -58,14 +58,14 @@ unfolding keep
 keep-all p lo [] up yes′ = refl
 keep-all p lo (r ∷ rs) up yes′ =
     let u = ascends lo r rs up in
-    rw (yes′ r (u .from), keep-all p (past r) rs (u .rest) (λ t k. yes′ t (omega arith)))
+    rw (yes′ r (u .from), keep-all p (suc (past r)) rs (u .rest) (λ t k. yes′ t (omega arith)))
 
 keep-none : (p : Record → Bool) (lo : ℕ) (rs : List Record) → ascending lo rs ≡ true → ((r : Record) → lo ≤ r .start → p r ≡ false) → keep p rs ≡ []
 unfolding keep
 keep-none p lo [] up no′ = refl
 keep-none p lo (r ∷ rs) up no′ =
     let u = ascends lo r rs up in
-    rw (no′ r (u .from)) (keep-none p (past r) rs (u .rest) (λ t k. no′ t (omega arith)))
+    rw (no′ r (u .from)) (keep-none p (suc (past r)) rs (u .rest) (λ t k. no′ t (omega arith)))
 
 -- an address is within the union of two that overlap exactly if it is in one of them
 within-hull : (r : Record) (l h x : ℕ) → r .start ≤ h → l ≤ past r → (leb (min (r .start) l) x && ltb x (max (past r) h)) ≡ (inSpan (r .start) (r .len) x || (leb l x && ltb x h))
@@ -82,12 +82,12 @@ overlap : (r : Record) (l h : ℕ) → r .start ≤ h → l ≤ past r → l ≤
 overlap r l h j k i = omega arith
 
 -- How far the union may reach when the records from lo on are still to come. It covers the span, and it begins with the span
--- unless those records lie above a, and ends with the span or else at or below lo.
+-- unless those records lie above a, and ends with the span or else below lo.
 pub record Reach (a e lo l h : ℕ) : Type 0 where
   pub low : l ≤ a
   pub high : e ≤ h
   pub met-low : a ≤ max l (lo - 1)
-  pub met-high : h ≤ max e lo
+  pub met-high : h ≤ max e (lo - 1)
 
 module _ (a e : ℕ) (wide : a < e) where
   -- the clauses of a walk over the records: none is left, the first is before the span, or it meets the span and widens the union
@@ -95,28 +95,28 @@ module _ (a e : ℕ) (wide : a < e) where
   unfolding merged keep lowest highest
   merged-nil l h = refl
 
-  pub merged-before : (r : Record) (rs : List Record) (l h : ℕ) → past r ≤ a → merged a e (r ∷ rs) l h ≡ r ∷ merged a e rs l h
+  pub merged-before : (r : Record) (rs : List Record) (l h : ℕ) → past r < a → merged a e (r ∷ rs) l h ≡ r ∷ merged a e rs l h
   unfolding merged keep
-  merged-before r rs l h k = rw (le-leb (past r) a k, le-ltb a (past r) k, and-false, lt-leb e (r .start) (omega arith))
+  merged-before r rs l h k = rw (lt-ltb (past r) a k, lt-leb a (past r) k, and-false, le-ltb e (r .start) (omega arith))
 
-  pub merged-meets : (r : Record) (rs : List Record) (l h : ℕ) → r .start < e → a < past r → merged a e (r ∷ rs) l h ≡ merged a e rs (min (r .start) l) (max (past r) h)
+  pub merged-meets : (r : Record) (rs : List Record) (l h : ℕ) → r .start ≤ e → a ≤ past r → merged a e (r ∷ rs) l h ≡ merged a e rs (min (r .start) l) (max (past r) h)
   unfolding merged keep lowest highest
-  merged-meets r rs l h j k = rw (lt-leb (past r) a k, lt-ltb (r .start) e j, lt-ltb a (past r) k, lt-leb e (r .start) j, lowest-min, highest-max)
+  merged-meets r rs l h j k = rw (le-ltb (past r) a k, le-leb (r .start) e j, le-leb a (past r) k, le-ltb e (r .start) j, lowest-min, highest-max)
 
   -- a record after the span stays, behind the union
-  merged-after : (r : Record) (rs : List Record) (l h : ℕ) → e ≤ r .start
+  merged-after : (r : Record) (rs : List Record) (l h : ℕ) → e < r .start
       → merged a e (r ∷ rs) l h ≡ earlier a rs ++ between (lowest l (met a e rs)) (highest h (met a e rs)) ∷ r ∷ later e rs
   unfolding merged keep
-  merged-after r rs l h k = rw (lt-leb (past r) a (omega arith), le-ltb (r .start) e k, le-leb e (r .start) k)
+  merged-after r rs l h k = rw (le-ltb (past r) a (omega arith), lt-leb (r .start) e k, lt-ltb e (r .start) k)
 
   -- where the records begin after the span, all of them do
-  pub merged-past : (lo : ℕ) (rs : List Record) (l h : ℕ) → ascending lo rs ≡ true → e ≤ lo → merged a e rs l h ≡ between l h ∷ rs
+  pub merged-past : (lo : ℕ) (rs : List Record) (l h : ℕ) → ascending lo rs ≡ true → e < lo → merged a e rs l h ≡ between l h ∷ rs
   unfolding merged lowest highest
   merged-past lo rs l h up k =
       rw (
-        keep-none (λ r. leb (past r) a) lo rs up (λ r j. lt-leb (past r) a (omega arith)),
-        keep-none (λ r. ltb (r .start) e && ltb a (past r)) lo rs up (λ r j. rw (le-ltb (r .start) e (omega arith))),
-        keep-all (λ r. leb e (r .start)) lo rs up (λ r j. le-leb e (r .start) (omega arith)),
+        keep-none (λ r. ltb (past r) a) lo rs up (λ r j. le-ltb (past r) a (omega arith)),
+        keep-none (λ r. leb (r .start) e && leb a (past r)) lo rs up (λ r j. rw (lt-leb (r .start) e (omega arith))),
+        keep-all (λ r. ltb e (r .start)) lo rs up (λ r j. lt-ltb e (r .start) (omega arith)),
       )
 
   pub held-merged : (rs : List Record) (l h x : ℕ) → l ≤ a → e ≤ h → held (merged a e rs l h) x ≡ (held rs x || (leb l x && ltb x h))
@@ -136,12 +136,12 @@ module _ (a e : ℕ) (wide : a < e) where
   ascending-merged floor lo [] l h up reach under low fits = rw merged-nil (ascending-cons (record { from = omega arith; some = omega arith; fits = omega arith; rest = unfold ascending in refl }))
   ascending-merged floor lo (r ∷ rs) l h up reach under low fits =
       let u = ascends lo r rs up in
-      go u (side a e r) (λ f l′ h′. ascending-merged f (past r) rs l′ h′ (u .rest))
+      go u (side a e r) (λ f l′ h′. ascending-merged f (suc (past r)) rs l′ h′ (u .rest))
     where
       go : Ascends lo r rs → Side a e r
-          → ((f l′ h′ : ℕ) → Reach a e (past r) l′ h′ → f ≤ past r → f ≤ l′ → h′ ≤ 65536 → ascending f (merged a e rs l′ h′) ≡ true)
+          → ((f l′ h′ : ℕ) → Reach a e (suc (past r)) l′ h′ → f ≤ suc (past r) → f ≤ l′ → h′ ≤ 65536 → ascending f (merged a e rs l′ h′) ≡ true)
           → ascending floor (merged a e (r ∷ rs) l h) ≡ true
-      go u (before k) ih = rw merged-before (ascending-cons (record { from = omega arith; some = u .some; fits = u .fits; rest = ih (past r) l h (omega arith) (omega arith) (omega arith) fits }))
+      go u (before k) ih = rw merged-before (ascending-cons (record { from = omega arith; some = u .some; fits = u .fits; rest = ih (suc (past r)) l h (omega arith) (omega arith) (omega arith) fits }))
       go u (meets j k) ih = rw (merged-meets r rs l h j k) (ih floor (min (r .start) l) (max (past r) h) (omega arith) (omega arith) (omega arith) (omega arith))
       go u (after k) ih =
           rw (merged-past (r .start) (r ∷ rs) l h (ascending-from _ u (omega arith)) k)
@@ -152,19 +152,19 @@ module _ (a e : ℕ) (wide : a < e) where
   total-merged lo [] l h up reach = rw merged-nil (omega arith)
   total-merged lo (r ∷ rs) l h up reach =
       let u = ascends lo r rs up in
-      go u (side a e r) (λ l′ h′. total-merged (past r) rs l′ h′ (u .rest))
+      go u (side a e r) (λ l′ h′. total-merged (suc (past r)) rs l′ h′ (u .rest))
     where
       go : Ascends lo r rs → Side a e r
-          → ((l′ h′ : ℕ) → Reach a e (past r) l′ h′ → total (merged a e rs l′ h′) + place rs h′ + l′ ≡ total rs + h′ + place rs l′)
+          → ((l′ h′ : ℕ) → Reach a e (suc (past r)) l′ h′ → total (merged a e rs l′ h′) + place rs h′ + l′ ≡ total rs + h′ + place rs l′)
           → total (merged a e (r ∷ rs) l h) + place (r ∷ rs) h + l ≡ total (r ∷ rs) + h + place (r ∷ rs) l
       go u (before k) ih =
           let far : past r ≤ l = omega arith in
           rw (merged-before, place-all r h (omega arith), place-all r l far) (omega (arith, ih l h (omega arith)))
       go u (meets j k) ih =
           let m = ih (min (r .start) l) (max (past r) h) (omega arith) in
-          let high = place-max (past r) (past r) rs h (u .rest) (omega arith) in
-          let low = place-low (past r) rs l (u .rest) (omega arith) in
-          let low′ = place-low (past r) rs (min (r .start) l) (u .rest) (omega arith) in
+          let high = place-max (past r) (suc (past r)) rs h (u .rest) (omega arith) in
+          let low = place-low (suc (past r)) rs l (u .rest) (omega arith) in
+          let low′ = place-low (suc (past r)) rs (min (r .start) l) (u .rest) (omega arith) in
           rw (merged-meets r rs l h j k) (omega (arith, overlap r l h (omega arith) (omega arith) (omega arith)))
       go u (after k) ih =
           let under : h ≤ r .start = omega arith in

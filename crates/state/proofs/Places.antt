@@ -25,7 +25,7 @@ unfolding place
 place-low lo [] x up h = refl
 place-low lo (r ∷ rs) x up h =
     let u = ascends lo r rs up in
-    let ih = place-low (past r) rs x (u .rest) (omega arith) in
+    let ih = place-low (suc (past r)) rs x (u .rest) (omega arith) in
     omega arith
 
 -- an address at or below the first record counts as the other one
@@ -34,7 +34,7 @@ unfolding place
 place-max p lo [] x up h = refl
 place-max p lo (r ∷ rs) x up h =
     let u = ascends lo r rs up in
-    let ih = place-max p (past r) rs x (u .rest) (omega arith) in
+    let ih = place-max p (suc (past r)) rs x (u .rest) (omega arith) in
     omega arith
 
 pub held-low : (lo : ℕ) (rs : List Record) (x : ℕ) → ascending lo rs ≡ true → x < lo → held rs x ≡ false
@@ -42,18 +42,18 @@ unfolding held
 held-low lo [] x up h = refl
 held-low lo (r ∷ rs) x up h =
     let u = ascends lo r rs up in
-    rw (below r x (omega arith)) (held-low (past r) rs x (u .rest) (omega arith))
+    rw (below r x (omega arith)) (held-low (suc (past r)) rs x (u .rest) (omega arith))
 
 -- the place moves on by one behind each held address
 pub place-suc : (lo : ℕ) (rs : List Record) (x : ℕ) → ascending lo rs ≡ true → place rs (suc x) ≡ place rs x + cond (held rs x) 1 0
 unfolding place held
 place-suc lo [] x up = refl
-place-suc lo (r ∷ rs) x up = let u = ascends lo r rs up in go u (place-suc (past r) rs x (u .rest)) (lies x r)
+place-suc lo (r ∷ rs) x up = let u = ascends lo r rs up in go u (place-suc (suc (past r)) rs x (u .rest)) (lies x r)
   where
     go : Ascends lo r rs → place rs (suc x) ≡ place rs x + cond (held rs x) 1 0 → Lies x r
         → place (r ∷ rs) (suc x) ≡ place (r ∷ rs) x + cond (held (r ∷ rs) x) 1 0
     go u ih (over h) = rw (above r x h) (omega arith)
-    go u ih (within h k) = rw (inside r x (omega arith) k) (omega (arith, place-low _ rs (suc x) (u .rest) k, place-low _ rs x (u .rest) (omega arith)))
+    go u ih (within h k) = rw (inside r x (omega arith) k) (omega (arith, place-low _ rs (suc x) (u .rest) (omega arith), place-low _ rs x (u .rest) (omega arith)))
     go u ih (beneath h) = rw (below r x h) (omega arith)
 
 -- so the fresh addresses and the held ones of a span make up the span
@@ -116,7 +116,7 @@ pub middle-above : (lo : ℕ) (xs : List Record) (u : Record) (ys : List Record)
 middle-above lo [] u ys up = ascends lo u ys up .from
 middle-above lo (r ∷ xs) u ys up =
     let v = ascends lo r (xs ++ u ∷ ys) up in
-    omega (arith, middle-above (past r) xs u ys (v .rest))
+    omega (arith, middle-above (suc (past r)) xs u ys (v .rest))
 
 pub place-middle :
     (lo : ℕ) (xs : List Record) (u : Record) (ys : List Record) (x : ℕ) → ascending lo (xs ++ u ∷ ys) ≡ true → u .start ≤ x → x < past u
@@ -124,11 +124,11 @@ pub place-middle :
 unfolding place total
 place-middle lo [] u ys x up h k =
     let v = ascends lo u ys up in
-    omega (arith, place-low (past u) ys x (v .rest) (omega arith))
+    omega (arith, place-low (suc (past u)) ys x (v .rest) (omega arith))
 place-middle lo (r ∷ xs) u ys x up h k =
     let v = ascends lo r (xs ++ u ∷ ys) up in
-    let below = middle-above (past r) xs u ys (v .rest) in
-    omega (arith, place-all r x (omega arith), place-middle (past r) xs u ys x (v .rest) h k)
+    let below = middle-above (suc (past r)) xs u ys (v .rest) in
+    omega (arith, place-all r x (omega arith), place-middle (suc (past r)) xs u ys x (v .rest) h k)
 
 -- the places of held addresses side by side are side by side
 pub place-along : (lo : ℕ) (rs : List Record) (a n : ℕ) → ascending lo rs ≡ true → ((i : ℕ) → i < n → held rs (a + i) ≡ true) → place rs (a + n) ≡ place rs a + n

@@ -4,7 +4,7 @@ use native.Mathlib.Omega.{arith}
 use mathlib.Core.Path.{_≡_}
 use mathlib.Core.List.{List, _∷_}
 use lib.ListN.{getD}
-use borrow.Author.Tests.{lt-ltb, le-ltb, le-leb, lt-leb, eq-eqb, ne-eqb}
+use borrow.Author.Tests.{lt-ltb, le-ltb, eq-eqb, ne-eqb}
 use Rattle.state.specs.declared.Record.{Record}
 use Rattle.state.specs.declared.Meeting.{Meeting}
 use Rattle.state.specs.Records.{past}
@@ -13,23 +13,23 @@ use Rattle.state.specs.Join.{moved, widened, passed, searched, unionOf, 
 
 -- a record before the span, and one that meets it
 module _ (a : ℕ) (r : Record) (m : Meeting) where
-  pub passed-before : past r ≤ a → passed a r m ≡ moved r m
+  pub passed-before : past r < a → passed a r m ≡ moved r m
   unfolding passed
-  passed-before h = rw (le-leb (past r) a h)
+  passed-before h = rw (lt-ltb (past r) a h)
 
-  pub passed-meets : a < past r → passed a r m ≡ widened r m
+  pub passed-meets : a ≤ past r → passed a r m ≡ widened r m
   unfolding passed
-  passed-meets h = rw (lt-leb (past r) a h)
+  passed-meets h = rw (le-ltb (past r) a h)
 
 -- the search stops, or goes on
 module _ (a e : ℕ) (r : Record) (rs : List Record) (m : Meeting) where
-  pub search-stops : e ≤ r .start → searched a e (r ∷ rs) m ≡ m
+  pub search-stops : e < r .start → searched a e (r ∷ rs) m ≡ m
   unfolding searched
-  search-stops h = rw (le-leb e (r .start) h, searched)
+  search-stops h = rw (lt-ltb e (r .start) h, searched)
 
-  pub search-on : r .start < e → searched a e (r ∷ rs) m ≡ searched a e rs (passed a r m)
+  pub search-on : r .start ≤ e → searched a e (r ∷ rs) m ≡ searched a e rs (passed a r m)
   unfolding searched
-  search-on h = rw (lt-leb e (r .start) h, searched)
+  search-on h = rw (le-ltb e (r .start) h, searched)
 
 -- an entry after the union is put in: before it, the union itself, or behind it
 module _ (entries : List Record) (m : Meeting) (k : ℕ) where

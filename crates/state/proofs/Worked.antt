@@ -7,6 +7,7 @@ use mathlib.Core.Bool.{true, false}
 use Rattle.state.specs.declared.Record.{Record}
 use Rattle.state.specs.Records.{held, span, addresses, total, place, countFresh, fresh, keep, lowest, highest, joined}
 use Rattle.state.specs.State.{ascending}
+use Rattle.state.specs.Runs.{inFront, runsFrom}
 
 abbrev _at_ : ℕ → ℕ → Record
 n at a = record { start = a; len = n }
@@ -16,11 +17,19 @@ overlapping : joined (4 at 16 ∷ []) 14 8 ≡ 8 at 14 ∷ []
 unfolding joined keep lowest highest
 overlapping = refl
 
-touching : joined (4 at 0 ∷ []) 4 4 ≡ 4 at 0 ∷ 4 at 4 ∷ []
+touching : joined (4 at 0 ∷ []) 4 4 ≡ 8 at 0 ∷ []
 unfolding joined keep lowest highest
 touching = refl
 
-bridging : joined (4 at 0 ∷ 4 at 4 ∷ []) 2 4 ≡ 8 at 0 ∷ []
+touching-both : joined (4 at 0 ∷ 2 at 6 ∷ 1 at 9 ∷ []) 4 2 ≡ 8 at 0 ∷ 1 at 9 ∷ []
+unfolding joined keep lowest highest
+touching-both = refl
+
+a-gap-on-either-side : joined (4 at 0 ∷ 1 at 9 ∷ []) 5 3 ≡ 4 at 0 ∷ 3 at 5 ∷ 1 at 9 ∷ []
+unfolding joined keep lowest highest
+a-gap-on-either-side = refl
+
+bridging : joined (4 at 0 ∷ 4 at 5 ∷ []) 2 4 ≡ 9 at 0 ∷ []
 unfolding joined keep lowest highest
 bridging = refl
 
@@ -28,7 +37,7 @@ between-others : joined (1 at 0 ∷ 2 at 8 ∷ 1 at 20 ∷ []) 9 4 ≡ 1 at 0 �
 unfolding joined keep lowest highest
 between-others = refl
 
-no-length : joined (1 at 0 ∷ []) 0 0 ≡ 1 at 0 ∷ []
+no-length : joined (4 at 0 ∷ 2 at 6 ∷ []) 4 0 ≡ 4 at 0 ∷ 2 at 6 ∷ []
 unfolding joined
 no-length = refl
 
@@ -48,9 +57,13 @@ five-held : total (2 at 10 ∷ 3 at 20 ∷ []) ≡ 5
 unfolding total
 five-held = refl
 
-in-order : ascending 0 (4 at 0 ∷ 4 at 4 ∷ 1 at 65535 ∷ []) ≡ true
+in-order : ascending 0 (4 at 0 ∷ 4 at 5 ∷ 1 at 65535 ∷ []) ≡ true
 unfolding ascending
 in-order = refl
+
+touching-each-other : ascending 0 (4 at 0 ∷ 4 at 4 ∷ []) ≡ false
+unfolding ascending
+touching-each-other = refl
 
 sharing-a-byte : ascending 0 (4 at 0 ∷ 4 at 3 ∷ []) ≡ false
 unfolding ascending
@@ -59,3 +72,11 @@ sharing-a-byte = refl
 past-the-last-address : ascending 0 (2 at 65535 ∷ []) ≡ false
 unfolding ascending
 past-the-last-address = refl
+
+runs-of-held : runsFrom (held (4 at 0 ∷ 3 at 5 ∷ 1 at 9 ∷ [])) 0 16 ≡ 4 at 0 ∷ 3 at 5 ∷ 1 at 9 ∷ []
+unfolding runsFrom inFront held
+runs-of-held = refl
+
+one-run-of-two-that-touch : runsFrom (held (4 at 0 ∷ 4 at 4 ∷ [])) 0 16 ≡ 8 at 0 ∷ []
+unfolding runsFrom inFront held
+one-run-of-two-that-touch = refl

@@ -1,11 +1,11 @@
 -- The search for the records that meet a span, and the records that it leaves, as the code computes them. The laws in proofs/ say
--- what they are for records that ascend: the search finds just the records that share a byte with the span, and the rest is
--- `joined`.
+-- what they are for records that ascend: the search finds just the records that share a byte with the span or touch it, and the rest
+-- is `joined`.
 use Prim.Native.Nat.{ℕ, suc, _+_, _-_, _%_, _≤_, min, max}
 use mathlib.Core.Path.{_≡_}
 use mathlib.Core.List.{List, [], _∷_, _++_, map}
 use mathlib.Core.Bool.{true, false, cond}
-use lib.Dec.{ltb, leb, eqb}
+use lib.Dec.{ltb, eqb}
 use lib.ListN.{length, take, drop, getD}
 use Rattle.state.specs.declared.Record.{Record}
 use Rattle.state.specs.declared.Meeting.{Meeting}
@@ -21,14 +21,14 @@ moved r m = record { first = m .first + 1; last = m .last + 1; low = m .low; hig
 abbrev pub widened : Record → Meeting → Meeting
 widened r m = record { first = m .first; last = m .last + 1; low = min (r .start) (m .low); high = max (past r) (m .high); below = m .below; held = m .held + r .len }
 
--- a record that starts before the span's end is one of the two
+-- a record that starts at or before the span's end is one of the two
 unfoldable pub passed : ℕ → Record → Meeting → Meeting
-passed a r m = cond (leb (past r) a) (moved r m) (widened r m)
+passed a r m = cond (ltb (past r) a) (moved r m) (widened r m)
 
--- the search stops at the first record that starts at the span's end or above it
+-- the search stops at the first record that starts above the span's end
 unfoldable pub searched : (a e : ℕ) → List Record → Meeting → Meeting
 searched a e [] m = m
-searched a e (r ∷ rs) m = elim (leb e (r .start)) [ true ↦ m | false ↦ searched a e rs (passed a r m) ]
+searched a e (r ∷ rs) m = elim (ltb e (r .start)) [ true ↦ m | false ↦ searched a e rs (passed a r m) ]
 
 -- nothing looked at yet
 abbrev pub unmet : (a e : ℕ) → Meeting

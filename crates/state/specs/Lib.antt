@@ -7,3 +7,5 @@ pub mod Join
 pub mod Refusals
 pub mod Verdict
 pub mod Checks
+pub mod Runs
+pub mod Claims

@@ -1,9 +1,9 @@
 -- The records of one command: which addresses they hold, where the held bytes stand, and what a fetched span makes of them
--- (01, the agreed scope, "The book and the store" and the rule of fetch; docs/RULES.md has its rules).
+-- (01, the agreed scope, "The book and the store" and the rule of fetch, with request F-1 of 02; docs/RULES.md has their rules).
 use Prim.Native.Nat.{ℕ, zero, suc, _+_, _-_, min, max}
 use mathlib.Core.List.{List, [], _∷_, _++_}
 use mathlib.Core.Bool.{Bool, false, cond, _&&_, _||_}
-use lib.Dec.{ltb, leb}
+use lib.Dec.{ltb, leb, eqb}
 use Rattle.state.specs.declared.Record.{Record}
 
 -- the address after a record
@@ -52,16 +52,24 @@ unfoldable pub keep : (Record → Bool) → List Record → List Record
 keep p [] = []
 keep p (r ∷ rs) = cond (p r) (r ∷ keep p rs) (keep p rs)
 
--- 01's sharing of a byte between a record and the span; a record that only touches the span shares none
+-- 01's sharing of a byte between a record and the span
 abbrev pub shares : ℕ → ℕ → Record → Bool
 shares a n r = ltb (r .start) (a + n) && ltb a (past r)
 
--- the records that end at or before a, and those that start at or after e
+-- F-1's touching: the record ends where the span starts, or starts where the span ends
+abbrev pub touches : ℕ → ℕ → Record → Bool
+touches a n r = eqb (past r) a || eqb (r .start) (a + n)
+
+-- F-1's records that a span is joined with: those that share a byte with it or touch it, in one test (`MeetsWords`)
+abbrev pub meets : ℕ → ℕ → Record → Bool
+meets a n r = leb (r .start) (a + n) && leb a (past r)
+
+-- the records that end before a, and those that start after e, with an address between that is in neither
 abbrev pub earlier : ℕ → List Record → List Record
-earlier a = keep (λ r. leb (past r) a)
+earlier a = keep (λ r. ltb (past r) a)
 
 abbrev pub later : ℕ → List Record → List Record
-later e = keep (λ r. leb e (r .start))
+later e = keep (λ r. ltb e (r .start))
 
 -- the lowest of a and the records' starts, and the highest of e and the addresses after them
 unfoldable pub lowest : ℕ → List Record → ℕ
@@ -76,8 +84,8 @@ highest e (r ∷ rs) = max (past r) (highest e rs)
 abbrev pub union : ℕ → ℕ → List Record → Record
 union a n met = record { start = lowest a met; len = highest (a + n) met - lowest a met }
 
--- 01's joining rule, the records after the span is held: the union takes the place of the records that it covers, and a span of
--- length 0 joins nothing.
+-- The joining rule, 01's with F-1: the records after the span is held. The union takes the place of the records that the span meets, and
+-- a span of length 0 joins nothing, touching or not.
 unfoldable pub joined : List Record → ℕ → ℕ → List Record
 joined rs a zero = rs
-joined rs a (suc n) = earlier a rs ++ union a (suc n) (keep (shares a (suc n)) rs) ∷ later (a + suc n) rs
+joined rs a (suc n) = earlier a rs ++ union a (suc n) (keep (meets a (suc n)) rs) ∷ later (a + suc n) rs

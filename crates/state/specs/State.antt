@@ -1,6 +1,6 @@
 -- The cache's state, the book of 01 (the agreed scope; docs/RULES.md has its rules): the fresh one, what each command holds, and which
 -- states hold together.
-use Prim.Native.Nat.{ℕ, _-_}
+use Prim.Native.Nat.{ℕ, suc, _-_}
 use mathlib.Core.List.{List, [], _∷_, _++_}
 use mathlib.Core.Bool.{Bool, true, false, _&&_, _||_}
 use lib.Dec.{ltb, leb, eqb}
@@ -55,11 +55,11 @@ isOpen s c = commandOf s c .opened
 abbrev pub withCommand : State → ℕ → CommandState → State
 withCommand s c next = record { commands = set (s .commands) c next }
 
--- 01's rules for a list of records: each starts at or behind the end of the one before it (lo for the first), is not empty, and
--- ends at or before address 65,536
+-- The rules for a list of records, 01's with F-1: each starts behind the end of the one before it and does not touch it (the first at lo
+-- or behind it), is not empty, and ends at or before address 65,536
 unfoldable pub ascending : ℕ → List Record → Bool
 ascending lo [] = true
-ascending lo (r ∷ rs) = leb lo (r .start) && ltb 0 (r .len) && leb (past r) windowLimit && ascending (past r) rs
+ascending lo (r ∷ rs) = leb lo (r .start) && ltb 0 (r .len) && leb (past r) windowLimit && ascending (suc (past r)) rs
 
 abbrev pub isZero : Record → Bool
 isZero r = eqb (r .start) 0 && eqb (r .len) 0

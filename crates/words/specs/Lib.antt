@@ -1,4 +1,1 @@
-pub mod Holds
-pub mod Bounds
-pub mod Splice
 pub mod Claims

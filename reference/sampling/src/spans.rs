@@ -21,7 +21,8 @@ pub fn overlapping(generator: &mut Generator, window: u64) -> (u64, u64) {
     (generator.below(window - 40), generator.below(41))
 }
 
-/// Eight bytes side by side with the next eight, and some across the borders.
+/// Eight bytes that touch the eight before and behind, and some across the
+/// borders.
 pub fn touching(generator: &mut Generator, window: u64) -> (u64, u64) {
     let start = 8 * generator.below(window / 8 - 4);
     if generator.one_in(5) {
@@ -29,6 +30,13 @@ pub fn touching(generator: &mut Generator, window: u64) -> (u64, u64) {
     } else {
         (start, 8)
     }
+}
+
+/// One byte at an even address, and one in five times at an odd one, between
+/// two of those.
+pub fn every_other(generator: &mut Generator, window: u64) -> (u64, u64) {
+    let start = 2 * generator.below(window / 2);
+    (start + u64::from(generator.one_in(5)), 1)
 }
 
 /// Spans around one middle, so that of any two one lies in the other.

@@ -6,8 +6,8 @@ use denote.Ref.{now}
 use borrow.Author.Needs.{needs}
 use Rattle.state.specs.declared.Meeting.{Meeting}
 use Rattle.state.specs.Words.{commandIn}
-use Rattle.fetch.specs.declared.plan.Finding.{Finding}
-use Rattle.fetch.specs.Plan.{Plans}
+use Rattle.admission.specs.declared.plan.Finding.{Finding}
+use Rattle.admission.specs.Plan.{Plans}
 use Rattle.words.proofs.StateWords.{lent}
 use Rattle.fetch.proofs.Lending.{Lent, SpanRoom, admitted, bytes-refused, records-refused, room}
 use Rattle.fetch.proofs.fetch_span.Statement.{statement}

@@ -10,7 +10,7 @@ use Rattle.state.specs.Verdict.{replied, accepted, verdict}
 use Rattle.state.proofs.Verdict.{says-of}
 use Rattle.cache.specs.Fetch.{admitChecks}
 use Rattle.state.specs.Words.{stateOf}
-use Rattle.fetch.specs.Plan.{admissionReply}
+use Rattle.admission.specs.Plan.{admissionReply}
 use Rattle.fetch.proofs.Lending.{barred, nothing}
 use Rattle.fetch.proofs.fetch_words.Statement.{statement}
 use Rattle.fetch.proofs.fetch_words.Tie as tie

@@ -1,0 +1,67 @@
+// The records that meet a span, found by one search from the lowest start upward.
+ghost use mathlib.Core.Path.{_≡_};
+ghost use lib.ListN.{length};
+ghost use Rattle.state.specs.Limits.{recordLimit, commandWords};
+ghost use Rattle.state.specs.State.{recordsIn};
+ghost use Rattle.state.specs.Join.{meeting};
+ghost use Rattle.join.specs.Bounds.{Counted, Passed};
+ghost use Rattle.state.specs.Words.{commandIn};
+use state::Meeting;
+use state::Record;
+use words::entries::entry;
+use words::entries::used;
+use words::entries::wide;
+
+// The search goes on past a record that starts at or before the span's end: it lies before the span, or meets it.
+fn pass(m: Meeting, r: Record, address: usize) -> Meeting
+    requires { ⌜ Counted m 63 ⌝ }
+    ensures { λ n. ⌜ Passed m r address n ⌝ }
+{
+    let start = wide(r.start);
+    let len = wide(r.len);
+    let past = start + len;
+    if past < address {
+        return Meeting {
+            first: m.first + 1,
+            last: m.last + 1,
+            low: m.low,
+            high: m.high,
+            below: m.below + len,
+            held: m.held,
+        };
+    }
+    Meeting {
+        first: m.first,
+        last: m.last + 1,
+        low: octets::lesser(start, m.low),
+        high: octets::greater(past, m.high),
+        below: m.below,
+        held: m.held + len,
+    }
+}
+
+// How the span from `address` up to `end` lies among the records.
+pub fn meeting(words: &[u16], address: usize, end: usize) -> Meeting
+    requires { ⌜ length (now words) ≡ commandWords ⌝ }
+    ensures { λ r. ⌜ (r ≡ meeting (recordsIn (commandIn (now (words .entry)))) address end) × Counted r recordLimit ⌝ }
+{
+    let n = used(words);
+    let mut m = Meeting {
+        first: 0,
+        last: 0,
+        low: address,
+        high: end,
+        below: 0,
+        held: 0,
+    };
+    let mut i = 0;
+    while i < n {
+        let r = entry(words, i);
+        if end < wide(r.start) {
+            return m;
+        }
+        m = pass(m, r, address);
+        i = i + 1;
+    }
+    m
+}
