@@ -189,7 +189,7 @@ static void overlapping(void) {
     fetch("fetch 2 260+9, touching none", 2, 260, 9);
     change_window(5);
     fetch("fetch 2 253+7, touching 2 records", 2, 253, 7);
-    fetch("fetch 2 262+8, end fresh and touching none", 2, 262, 8);
+    fetch("fetch 2 262+8, front held", 2, 262, 8);
     fetch("fetch 2 270+0, touching a record", 2, 270, 0);
     fetch("fetch 2 0+1, the first byte", 2, 0, 1);
     fetch("fetch 2 65519+17, up to the last", 2, 65519, 17);
