@@ -42,8 +42,8 @@ pub enum Group {
 
 /// What is run.
 pub enum Subject {
-    /// A call, again and again after others.
-    Calls { before: Vec<Call>, unit: Call },
+    /// A call or several, again and again after others.
+    Calls { before: Vec<Call>, unit: Vec<Call> },
     /// Two journals, one of which has the frames of interest more. The log may
     /// find no room.
     Journals {
@@ -59,7 +59,8 @@ pub struct Case {
     pub name: String,
     /// The length or the records that the case is about.
     pub size: usize,
-    /// How many calls or frames of interest a run has.
+    /// How many calls or frames of interest a run has; several calls that are
+    /// measured together are one.
     pub units: usize,
     /// How many bytes they move.
     pub moved: usize,
@@ -80,7 +81,8 @@ impl Case {
         case
     }
 
-    /// Whether one run has one call only, since a second would not do the same.
+    /// Whether one run has what is measured only once, since a second time would
+    /// not be the same.
     pub fn is_single(&self) -> bool {
         self.units == 1
     }

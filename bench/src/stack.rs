@@ -25,7 +25,7 @@ pub struct Depth {
 }
 
 /// How many random journals are run.
-const JOURNALS: u64 = 28;
+const JOURNALS: u64 = 32;
 
 /// All functions.
 pub fn depths(cases: &[Case]) -> Vec<Depth> {
@@ -67,20 +67,26 @@ fn function(call: Call) -> &'static str {
 
 /// The most that a function takes in all calls of the cases.
 fn of_call(cases: &[Case], name: &str) -> usize {
-    let calls = cases.iter().filter_map(|case| match &case.subject {
-        Subject::Calls { before, unit } if function(*unit) == name => Some((before, *unit)),
-        _ => None,
-    });
-    let depths = calls.map(|(before, unit)| {
-        let (mut cache, mut memory) = (Proved::new(), Memory::new());
-        for call in before {
-            make(&mut cache, &mut memory, *call, &mut Unread);
-        }
-        let mut bytes = Taken(0);
-        make(&mut cache, &mut memory, unit, &mut bytes);
-        bytes.0
+    let depths = cases.iter().filter_map(|case| match &case.subject {
+        Subject::Calls { before, unit } => of_list(before, unit, name),
+        Subject::Journals { .. } => None,
     });
     depths.max().unwrap_or(0)
+}
+
+/// The most that a function takes among calls that follow others, if it is
+/// among them.
+fn of_list(before: &[Call], unit: &[Call], name: &str) -> Option<usize> {
+    let (mut cache, mut memory) = (Proved::new(), Memory::new());
+    for call in before {
+        make(&mut cache, &mut memory, *call, &mut Unread);
+    }
+    let depths = unit.iter().filter_map(|call| {
+        let mut bytes = Taken(0);
+        make(&mut cache, &mut memory, *call, &mut bytes);
+        (function(*call) == name).then_some(bytes.0)
+    });
+    depths.max()
 }
 
 /// Frames of every kind, with the longest data.

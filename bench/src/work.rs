@@ -63,7 +63,7 @@ pub fn works(case: &Case, column: Column) -> Option<[Box<dyn Work>; 2]> {
             Some([of(whole)?, of(base)?])
         }
         (Subject::Calls { before, unit }, _) => {
-            let unit = vec![*unit; case.units];
+            let unit = unit.repeat(case.units);
             let whole = match column {
                 Column::Proved => calls::<Proved>(before, &unit),
                 Column::Checked => calls::<Ordinary<true>>(before, &unit),

@@ -101,8 +101,8 @@ void test_fetch_joins(void)
     begin(&d, 0);
     fetch(&d, 0, 0, 4, 4, 0);
     fetch(&d, 0, 4, 4, 4, 0);
-    show(&d, 0, 0, 0, 4); /* they touch, and stay two */
-    show(&d, 0, 1, 4, 4);
+    show(&d, 0, 0, 0, 8); /* they touch, and are one */
+    show_refused(&d, DOORCLOVER_NO_SUCH_RECORD, 0, 1);
     fetch(&d, 0, 2, 4, 0, 4);
     show(&d, 0, 0, 0, 8);
     show_refused(&d, DOORCLOVER_NO_SUCH_RECORD, 0, 1);
@@ -112,6 +112,34 @@ void test_fetch_joins(void)
     CHECK(delivered(&d, 7, 100));
     show(&d, 0, 0, 0, 110);
     end(&d, 0, 1, 110);
+}
+
+void test_fetch_touches(void)
+{
+    desk d = fresh_desk();
+    begin(&d, 0);
+    fetch(&d, 0, 16, 4, 4, 0);
+    fetch(&d, 0, 26, 4, 4, 0);
+    fetch(&d, 0, 20, 0, 0, 0); /* no byte: nothing is joined */
+    fetch(&d, 0, 20, 2, 2, 0); /* where a record ends */
+    show(&d, 0, 0, 16, 6);
+    fetch(&d, 0, 25, 1, 1, 0); /* where one starts */
+    show(&d, 0, 0, 16, 6);
+    show(&d, 0, 1, 25, 5);
+    fetch(&d, 0, 22, 3, 3, 0); /* between two */
+    CHECK(delivered(&d, 22, 3));
+    show(&d, 0, 0, 16, 14);
+    show_refused(&d, DOORCLOVER_NO_SUCH_RECORD, 0, 1);
+    fetch(&d, 0, 15, 1, 1, 0);
+    fetch(&d, 0, 31, 1, 1, 0); /* one address between */
+    show(&d, 0, 0, 15, 15);
+    show(&d, 0, 1, 31, 1);
+    end(&d, 0, 2, 16);
+    begin(&d, 5); /* a descriptor of 64 bytes in eight loads */
+    for (size_t i = 0; i < 8; i++)
+        fetch(&d, 5, 64 + 8 * i, 8, 8, 0);
+    show(&d, 5, 0, 64, 64);
+    end(&d, 5, 1, 64);
 }
 
 /* Every fault at once, and then one after the other is mended: the lowest number is given. */
@@ -178,10 +206,15 @@ void test_fetch_full(void)
         fetch(&d, 7, 2 * i, 1, 1, 0);
     fetch_refused(&d, DOORCLOVER_TOO_MANY_RECORDS, 7, 128, 1);
     fetch_refused(&d, DOORCLOVER_TOO_MANY_BYTES, 7, 128, 4096); /* both: the lower number */
+    fetch(&d, 7, 127, 1, 1, 0); /* it touches the last one */
+    fetch_refused(&d, DOORCLOVER_TOO_MANY_RECORDS, 7, 200, 1);
     fetch(&d, 7, 0, 3, 1, 2);
     CHECK(delivered(&d, 0, 3));
     fetch(&d, 7, 200, 1, 1, 0);
-    end(&d, 7, 64, 66);
+    fetch_refused(&d, DOORCLOVER_TOO_MANY_RECORDS, 7, 202, 1);
+    fetch(&d, 7, 3, 1, 1, 0); /* it touches two */
+    fetch(&d, 7, 202, 1, 1, 0);
+    end(&d, 7, 64, 69);
     end(&d, 0, 1, 4096);
 }
 

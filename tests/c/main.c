@@ -35,6 +35,7 @@ static const test tests[] = {
     {"begin refused", test_begin_refused},
     {"fetch", test_fetch},
     {"fetch joins records", test_fetch_joins},
+    {"fetch joins records that it touches", test_fetch_touches},
     {"fetch refused", test_fetch_refused},
     {"fetch of too many bytes and records", test_fetch_full},
     {"end", test_end},

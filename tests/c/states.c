@@ -30,6 +30,8 @@ static const words broken[] = {
     {"a record of no bytes", {{0, 0, 2}, {0, 1, 9}}},
     {"a record of no bytes behind another", {{0, 0, 3}, {0, 1, 9}, {0, 2, 1}, {0, 3, 20}}},
     {"records that share a byte", {{0, 0, 3}, {0, 1, 9}, {0, 2, 3}, {0, 3, 11}, {0, 4, 1}}},
+    {"records that touch", {{0, 0, 3}, {0, 1, 9}, {0, 2, 3}, {0, 3, 12}, {0, 4, 1}}},
+    {"records that touch at the last address", {{6, 0, 3}, {6, 1, 65534}, {6, 2, 1}, {6, 3, 65535}, {6, 4, 1}}},
     {"records that descend", {{0, 0, 3}, {0, 1, 9}, {0, 2, 1}, {0, 3, 5}, {0, 4, 1}}},
     {"the same record twice", {{0, 0, 3}, {0, 1, 9}, {0, 2, 1}, {0, 3, 9}, {0, 4, 1}}},
     {"a record past the last address", {{0, 0, 2}, {0, 1, 65535}, {0, 2, 2}}},
@@ -40,7 +42,7 @@ static const words broken[] = {
 };
 
 static const words whole[] = {
-    {"records that touch", {{0, 0, 3}, {0, 1, 9}, {0, 2, 3}, {0, 3, 12}, {0, 4, 1}}},
+    {"records with one address between", {{0, 0, 3}, {0, 1, 9}, {0, 2, 3}, {0, 3, 13}, {0, 4, 1}}},
     {"a record at the last address", {{0, 0, 2}, {0, 1, 65535}, {0, 2, 1}}},
     {"4,096 bytes in one record", {{0, 0, 2}, {0, 1, 61440}, {0, 2, 4096}}},
     {"4,096 bytes in two", {{0, 0, 3}, {0, 2, 4095}, {0, 3, 5000}, {0, 4, 1}}},

@@ -8,6 +8,7 @@ void test_begin(void);
 void test_begin_refused(void);
 void test_fetch(void);
 void test_fetch_joins(void);
+void test_fetch_touches(void);
 void test_fetch_refused(void);
 void test_fetch_full(void);
 void test_end(void);

@@ -183,8 +183,14 @@ static void overlapping(void) {
     change_window(4);
     fetch("fetch 2 205+40, from record to record", 2, 205, 40);
     fetch("fetch 2 207+30, inside a record", 2, 207, 30);
-    fetch("fetch 2 250+3, touching a record", 2, 250, 3);
-    fetch("fetch 2 247+6, over 2 records", 2, 247, 6);
+    fetch("fetch 2 250+3, touching a record below", 2, 250, 3);
+    fetch("fetch 2 247+6, inside a record", 2, 247, 6);
+    fetch("fetch 2 198+3, touching a record above", 2, 198, 3);
+    fetch("fetch 2 260+9, touching none", 2, 260, 9);
+    change_window(5);
+    fetch("fetch 2 253+7, touching 2 records", 2, 253, 7);
+    fetch("fetch 2 262+8, front held", 2, 262, 8);
+    fetch("fetch 2 270+0, touching a record", 2, 270, 0);
     fetch("fetch 2 0+1, the first byte", 2, 0, 1);
     fetch("fetch 2 65519+17, up to the last", 2, 65519, 17);
     fetch("fetch 2 300+0", 2, 300, 0);
@@ -196,7 +202,8 @@ static void many_records(void) {
     begin("begin 4", 4);
     for (size_t i = 0; i < DOORCLOVER_RECORDS; i++) fetch("-fetch 4, a single byte", 4, 2 * i + 1, 1);
     refused_fetch("fetch 4 129+1, too many records", 24, 4, 129, 1);
-    change_window(5);
+    change_window(6);
+    fetch("fetch 4 128+1, touching the last of 64", 4, 128, 1);
     fetch("fetch 4 1+3, over 2 records", 4, 1, 3);
     fetch("fetch 4 1+127, over 63 records", 4, 1, 127);
     end("end 4", 4);

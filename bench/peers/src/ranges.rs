@@ -1,7 +1,9 @@
 //! For each command a map from the first address of a range to its bytes.
-//! Ranges that share a byte with a fetch are joined with it.
+//! Ranges that share a byte with a fetch or touch it are joined with it.
 
 use std::collections::BTreeMap;
+use std::mem::take;
+use std::ops::Bound::{Excluded, Included};
 
 use crate::COMMANDS;
 
@@ -20,7 +22,7 @@ impl Ranges {
 
     /// Replies how many ranges and distinct bytes the command had.
     pub fn end(&mut self, command: usize) -> (usize, usize) {
-        let held = std::mem::take(&mut self.commands[command]);
+        let held = take(&mut self.commands[command]);
         (held.len(), held.values().map(Vec::len).sum())
     }
 
@@ -55,21 +57,22 @@ impl Ranges {
 }
 
 /// Makes one range of a span and all that it meets, and delivers the span from
-/// it. Answers how many of its bytes are fresh.
+/// it. The lowest range grows where it stands. Answers how many bytes of the
+/// span are fresh.
 fn join(held: &mut Held, window: &[u8], destination: &mut [u8], address: usize) -> usize {
     let end = address + destination.len();
-    let low = match held.range(..address).next_back() {
-        Some((start, bytes)) if start + bytes.len() > address => *start,
-        _ => address,
+    let (low, mut joined) = match held.range_mut(..=address).next_back() {
+        Some((start, bytes)) if start + bytes.len() >= address => (*start, take(bytes)),
+        _ => (address, Vec::with_capacity(end - address)),
     };
-    let mut joined = Vec::with_capacity(end - low);
     let mut fresh = 0;
     let mut add = |joined: &mut Vec<u8>, stop: usize| {
         let gap = &window[low + joined.len()..stop];
         fresh += gap.len();
         joined.extend_from_slice(gap);
     };
-    for (start, bytes) in held.extract_if(low..end, |_, _| true) {
+    let above = (Excluded(low), Included(end));
+    for (start, bytes) in held.extract_if(above, |_, _| true) {
         add(&mut joined, start);
         joined.extend_from_slice(&bytes);
     }

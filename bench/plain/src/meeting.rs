@@ -2,12 +2,12 @@
 
 use crate::state::{end, held, length, start, Record};
 
-/// How many records end at an address or below it, and the bytes that they
-/// hold. One walk for both is faster than a binary search and a sum.
+/// How many records end below an address, and the bytes that they hold. One
+/// walk for both is faster than a binary search and a sum.
 pub fn passed(records: &[Record], address: usize) -> (usize, usize) {
     let (mut count, mut bytes) = (0, 0);
     for record in records {
-        if end(*record) > address {
+        if end(*record) >= address {
             break;
         }
         count += 1;
@@ -16,8 +16,8 @@ pub fn passed(records: &[Record], address: usize) -> (usize, usize) {
     (count, bytes)
 }
 
-/// A span meets the records from `first` up to `last`, and reaches with them
-/// from `low` up to `high`; they hold so many bytes.
+/// A span shares a byte with the records from `first` up to `last` or touches
+/// them, and reaches with them from `low` up to `high`; they hold so many bytes.
 pub struct Meeting {
     pub first: usize,
     pub last: usize,
@@ -27,10 +27,10 @@ pub struct Meeting {
 }
 
 impl Meeting {
-    /// The first record that ends behind the address is known.
+    /// The first record that ends at the address or behind it is known.
     pub fn of(records: &[Record], first: usize, address: usize, stop: usize) -> Meeting {
         let behind = &records[first..];
-        let count = behind.iter().take_while(|record| start(**record) < stop);
+        let count = behind.iter().take_while(|record| start(**record) <= stop);
         let met = &behind[..count.count()];
         let (low, high) = match met {
             [] => (address, stop),

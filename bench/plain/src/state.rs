@@ -103,19 +103,19 @@ fn are_unused(entries: &[Record]) -> bool {
     words.iter().fold(0, |bits, word| bits | word) == 0
 }
 
-/// Whether each record is not empty, starts behind the one before it and ends
-/// where addresses do, and all together are not too long. A wrong one is rare,
-/// so no branch looks for it.
+/// Whether each record is not empty, starts above the end of the one before it
+/// and ends where addresses do, and all together are not too long. A wrong one
+/// is rare, so no branch looks for it.
 fn are_records(records: &[Record]) -> bool {
-    let (mut low, mut total, mut wrong) = (0, 0, false);
+    let (mut low, mut total, mut wrong) = (-1, 0, false);
     for [start, length] in records {
-        let (start, length) = (u32::from(*start), u32::from(*length));
-        wrong |= start < low;
+        let (start, length) = (i32::from(*start), i32::from(*length));
+        wrong |= start <= low;
         wrong |= length == 0;
         low = start + length;
         total += length;
     }
-    !wrong && low <= WINDOW as u32 && total <= HELD as u32
+    !wrong && low <= WINDOW as i32 && total <= HELD as i32
 }
 
 /// All commands.

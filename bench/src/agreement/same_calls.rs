@@ -26,15 +26,18 @@ const BEFORE: usize = 60;
 const AFTER: usize = 12;
 
 /// Records of a command that just keep a rule or just break it: by their sum,
-/// by where they end, by their order.
-const BRINKS: [&[Record]; 9] = [
+/// by where they end, by their order and what is between them.
+const BRINKS: [&[Record]; 12] = [
     &[[0, 4_096]],
     &[[0, 4_097]],
     &[[0, 4_095], [5_000, 1]],
     &[[0, 4_096], [5_000, 1]],
     &[[65_535, 1]],
     &[[65_535, 2]],
+    &[[7, 5], [13, 1]],
     &[[7, 5], [12, 1]],
+    &[[0, 1], [1, 1]],
+    &[[65_534, 1], [65_535, 1]],
     &[[7, 5], [11, 1]],
     &[[7, 5], [12, 0]],
 ];
@@ -49,7 +52,7 @@ const ON_EACH: usize = 300;
 pub fn difference(cases: &[Case]) -> Option<String> {
     let of_case = |case: &Case| match &case.subject {
         Subject::Calls { before, unit } => {
-            let list = before.iter().chain([unit, unit]);
+            let list = before.iter().chain(unit).chain(unit);
             Scene::default().differ(list.copied())
         }
         Subject::Journals { .. } => None,
@@ -300,7 +303,8 @@ impl Source {
             3 => spans::overlapping(numbers, 2_000),
             4 => spans::medium(numbers, 3_000),
             5 => spans::large(numbers, 9_000),
-            _ => spans::small(numbers, 1_000),
+            6 => spans::every_other(numbers, 260),
+            _ => spans::small(numbers, 1_500),
         };
         let address = match numbers.below(60) {
             0 => usize::MAX - address as usize,

@@ -7,7 +7,7 @@ use crate::memory::Desk;
 use crate::work::{replay_of, COLUMNS};
 
 /// How many random journals the programs run.
-const JOURNALS: u64 = 140;
+const JOURNALS: u64 = 160;
 
 /// The name of a journal after which something is not the same.
 pub fn difference(cases: &[Case]) -> Option<String> {

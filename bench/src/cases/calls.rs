@@ -27,6 +27,7 @@ pub fn all() -> Vec<Case> {
     }
     cases.extend(RECORDS.map(overlap));
     cases.push(below());
+    cases.extend(eight_loads());
     cases.extend(others());
     cases
 }
@@ -45,12 +46,14 @@ fn fetch(address: usize, length: usize) -> Call {
 
 /// A call that leaves the cache as it was.
 fn repeated(group: Group, name: &str, size: usize, before: Vec<Call>, unit: Call) -> Case {
+    let unit = vec![unit];
     let subject = Subject::Calls { before, unit };
     Case::new(group, name.to_string(), size, REPEATED, subject)
 }
 
 /// A call that a second one would not be like.
 fn single(group: Group, name: &str, size: usize, before: Vec<Call>, unit: Call) -> Case {
+    let unit = vec![unit];
     let subject = Subject::Calls { before, unit };
     Case::new(group, name.to_string(), size, 1, subject)
 }
@@ -140,8 +143,31 @@ fn overlap(records: usize) -> Case {
 /// A fresh byte below all others that can be held, which move up by one.
 fn below() -> Case {
     let name = format!("fresh, 1 byte below {} held ones", LONGEST - 1);
-    let before = vec![begin(COMMAND), fetch(1, LONGEST - 1)];
+    let before = vec![begin(COMMAND), fetch(2, LONGEST - 1)];
     single(Group::Call, &name, 1, before, fetch(0, 1))
+}
+
+/// A descriptor that is fetched in eight parts, each of which touches the one
+/// before: the fetches alone, and with begin and end.
+fn eight_loads() -> [Case; 2] {
+    const LOADS: usize = 8;
+    const LOAD: usize = 8;
+    const DESCRIPTOR: usize = 64;
+    let loads: Vec<Call> = (0..LOADS)
+        .map(|load| fetch(DESCRIPTOR + LOAD * load, LOAD))
+        .collect();
+    let end = Call::End { command: COMMAND };
+    let whole = [&[begin(COMMAND)], &loads[..], &[end]].concat();
+    let case = |name: &str, units, before, unit| {
+        let subject = Subject::Calls { before, unit };
+        Case::new(Group::Call, name.to_string(), LOADS, units, subject)
+    };
+    let name = "fresh, 64 bytes in 8 fetches of 8";
+    let with_ends = format!("begin, {name}, end");
+    [
+        case(name, 1, vec![begin(COMMAND)], loads),
+        case(&with_ends, REPEATED, vec![], whole),
+    ]
 }
 
 /// Calls that are no fetches.

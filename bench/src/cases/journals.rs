@@ -114,7 +114,7 @@ fn overlap(records: usize) -> Pair {
 
 /// A random journal with frames of every kind.
 fn mixed() -> Pair {
-    const SEED: u64 = 13;
+    const SEED: u64 = 15;
     let journal = journal(SEED);
     assert_eq!(journal.profile, "mixed");
     Pair {

@@ -13,18 +13,26 @@ use plain::journal::replay;
 pub fn by_case(case: &Case) -> usize {
     match &case.subject {
         Subject::Journals { whole, base, .. } => by_journal(whole) - by_journal(base),
-        Subject::Calls { before, unit } => by_call(before, *unit) * case.units,
+        Subject::Calls { before, unit } => by_calls(before, unit) * case.units,
     }
 }
 
-fn by_call(before: &[Call], unit: Call) -> usize {
+fn by_calls(before: &[Call], unit: &[Call]) -> usize {
     let mut cache = Ordinary::<true>::new();
     let mut memory = Memory::new();
-    let mut last = Last(Answer::Unknown);
-    for call in before.iter().chain([&unit]) {
+    let mut answer = |call: &Call| {
+        let mut last = Last(Answer::Unknown);
         make(&mut cache, &mut memory, *call, &mut last);
+        last.0
+    };
+    for call in before {
+        answer(call);
     }
-    match (unit, last.0) {
+    unit.iter().map(|call| by_call(*call, answer(call))).sum()
+}
+
+fn by_call(call: Call, answer: Answer) -> usize {
+    match (call, answer) {
         (Call::Fetch { .. }, Answer::Numbers(fresh, replayed)) => 2 * fresh + replayed,
         (Call::HostWrite { .. } | Call::OwnWrite { .. }, Answer::Numbers(bytes, _)) => bytes,
         _ => 0,

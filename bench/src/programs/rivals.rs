@@ -41,8 +41,7 @@ impl Cache for Ranges {
     }
 }
 
-/// It has no records: where two touch, its bits are in one row. So it can show
-/// none, nor count them at the end.
+/// It keeps no records, so it can show none, nor count them at the end.
 impl Cache for Bitmap {
     fn new() -> Bitmap {
         Bitmap::of_window(WINDOW)

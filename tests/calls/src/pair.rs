@@ -162,6 +162,7 @@ fn difference<T: PartialEq + Display>(name: &str, right: &[T], found: &[T]) -> O
 mod tests {
     use super::*;
     use crate::file::read;
+    use crate::random::list;
 
     /// A pair after these lines, on which nothing may differ.
     fn after(text: &str) -> Pair {
@@ -214,6 +215,40 @@ mod tests {
             "{told}"
         );
         assert_eq!(complaint(&mut pair, "fetch 3 16+4 = 0 0 4"), "");
+    }
+
+    /// The number of records and of held bytes of a command; none of one that
+    /// there is not.
+    fn records_and_bytes(book: &Book, command: u64) -> (u64, u64) {
+        let Some(entry) = book.commands.get(command as usize) else {
+            return (0, 0);
+        };
+        let lengths = entry.entries.iter().map(|record| record.length);
+        (entry.count, lengths.sum())
+    }
+
+    #[test]
+    fn random_lists_touch_records_where_there_are_as_many_as_there_may_be() {
+        let (mut touched, mut refused) = (0, 0);
+        for seed in 0..144 {
+            let mut pair = Pair::new("a list");
+            for item in list(seed) {
+                let before = pair.expected.book.clone();
+                let mut tally = Tally::default();
+                pair.carry_out(&item, &mut tally);
+                let Line::Call(Call::Fetch { command, span }, _) = item.line else {
+                    continue;
+                };
+                let (records, bytes) = records_and_bytes(&before, command);
+                let (_, bytes_after) = records_and_bytes(&pair.expected.book, command);
+                if records == 64 {
+                    let all_fresh = span.length > 0 && bytes_after - bytes == span.length;
+                    touched += u64::from(all_fresh);
+                    refused += tally.count_of("fetch", 24);
+                }
+            }
+        }
+        assert!(touched > 50 && refused > 100, "{touched}, {refused}");
     }
 
     #[test]

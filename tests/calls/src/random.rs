@@ -35,11 +35,12 @@ const ODD: [u64; 8] = [
 /// How a list chooses its spans, and among how many addresses.
 type Spans = (fn(&mut Generator, u64) -> (u64, u64), u64);
 
-const SPANS: [Spans; 8] = [
+const SPANS: [Spans; 9] = [
     (spans::small, 1_000),
     (spans::large, 9_000),
     (spans::overlapping, 700),
     (spans::touching, 512),
+    (spans::every_other, 260),
     (spans::nested, 4_300),
     (spans::at_the_end, 65_536),
     (spans::medium, 2_000),
@@ -52,7 +53,7 @@ enum Start {
     Fresh,
     /// A state that holds together, set by its words.
     Sound,
-    /// The same with a word or two changed.
+    /// The same with a word or two changed, often so that two records touch.
     Damaged,
     /// Words of any value.
     AnyWords,
@@ -100,6 +101,8 @@ struct Draft {
     addresses: u64,
     /// How many commands take part, from 0 on.
     commands: u64,
+    /// The words of each command where the state was set; none if it was not.
+    words: Vec<Vec<u16>>,
     items: Vec<Item>,
 }
 
@@ -114,6 +117,7 @@ impl Draft {
             span,
             addresses,
             commands,
+            words: vec![],
             items: vec![],
         }
     }
@@ -144,22 +148,34 @@ impl Draft {
         if let Start::Fresh = start {
             return;
         }
-        for command in 0..COMMANDS {
-            let values = match start {
-                Start::AnyWords => states::any_words(&mut self.numbers),
-                _ => states::sound_command(&mut self.numbers),
-            };
+        let values = |_| match start {
+            Start::AnyWords => states::any_words(&mut self.numbers),
+            _ => states::sound_command(&mut self.numbers),
+        };
+        let commands: Vec<Vec<u16>> = (0..COMMANDS).map(values).collect();
+        for (command, values) in commands.iter().enumerate() {
             self.set(Setting::Words {
                 command,
                 place: 0,
-                values,
+                values: values.clone(),
             });
         }
+        self.words = commands;
         if let Start::Damaged = start {
-            for _ in 0..self.numbers.between(1, 2) {
-                let damage = states::damage(&mut self.numbers);
-                self.set(damage);
+            self.damage();
+        }
+    }
+
+    /// Makes two records of a command touch, or changes a word or two.
+    fn damage(&mut self) {
+        if self.numbers.one_in(2) {
+            if let Some(touch) = states::touch(&mut self.numbers, &self.words) {
+                return self.set(touch);
             }
+        }
+        for _ in 0..self.numbers.between(1, 2) {
+            let damage = states::damage(&mut self.numbers);
+            self.set(damage);
         }
     }
 
@@ -220,11 +236,21 @@ impl Draft {
             },
             27..=30 => self.read(),
             31..=35 => self.write(),
-            _ => Call::Fetch {
-                command: self.command(),
-                span: self.span(),
-            },
+            _ => self.fetch(),
         }
+    }
+
+    /// A fetch; where the state was set, one in four times of a span that
+    /// touches a record.
+    fn fetch(&mut self) -> Call {
+        let command = self.command();
+        let words = self.words.get(command as usize);
+        let beside = match words {
+            Some(words) if self.numbers.one_in(4) => states::beside(&mut self.numbers, words),
+            _ => None,
+        };
+        let span = beside.unwrap_or_else(|| self.span());
+        Call::Fetch { command, span }
     }
 
     fn odd(&mut self) -> u64 {

@@ -46,6 +46,11 @@ impl Tally {
         self.counts.values().sum()
     }
 
+    /// How many of these calls had this status.
+    pub fn count_of(&self, name: &'static str, status: u64) -> u64 {
+        self.counts.get(&(name, status)).copied().unwrap_or(0)
+    }
+
     /// What calls can answer and did not, in words.
     pub fn missing(&self) -> Vec<String> {
         let all = possible().into_iter();

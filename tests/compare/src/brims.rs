@@ -12,10 +12,7 @@ const RECORDS: u64 = 64;
 /// Brings any command to one of its limits, from a new begin on.
 pub fn any_brim(draft: &mut Draft) {
     let command = draft.numbers.below(8);
-    if draft.is_open(command) {
-        draft.end(command);
-    }
-    draft.begin(command);
+    draft.begin_anew(command);
     if draft.numbers.one_in(3) {
         last_byte(draft, command);
     } else {
@@ -46,7 +43,8 @@ fn last_byte(draft: &mut Draft, command: u64) {
 
 /// Gives the command 64 records of one length, at one distance. Then a record
 /// more is refused (24), or too many bytes are (23), which is the lower number;
-/// two records that are joined leave room for a new one.
+/// a byte that touches a record is not, and two records that are joined leave
+/// room for a new one.
 fn last_record(draft: &mut Draft, command: u64) {
     let distance = draft.numbers.between(2, 128);
     let length = draft
@@ -64,6 +62,8 @@ fn last_record(draft: &mut Draft, command: u64) {
     draft.fetch(command, behind, 1);
     draft.fetch(command, behind, left);
     draft.fetch(command, behind, left + 1);
+    let touched = draft.numbers.below(RECORDS);
+    draft.fetch(command, start + touched * distance + length, 1);
     let joined = draft.numbers.below(RECORDS - 1);
     draft.fetch(command, start + joined * distance, distance + 1);
     draft.fetch(command, behind, 1);

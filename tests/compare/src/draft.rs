@@ -67,6 +67,14 @@ impl Draft {
         Some(spans[place as usize])
     }
 
+    /// Ends the command if it is open, and begins it.
+    pub fn begin_anew(&mut self, command: u64) {
+        if self.is_open(command) {
+            self.end(command);
+        }
+        self.begin(command);
+    }
+
     pub fn begin(&mut self, command: u64) {
         if self.add(&layout::frame(0, command, 0, 0, &[])) {
             self.open[command as usize] = true;

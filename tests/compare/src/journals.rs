@@ -2,6 +2,7 @@
 
 use crate::brims::any_brim;
 use crate::draft::{Draft, LONGEST};
+use crate::touches::any_touches;
 use crate::unreadable::spoil;
 use crate::walk::Walk;
 use crate::walks::WALKS;
@@ -13,6 +14,8 @@ pub enum Profile {
     Walk(&'static Walk),
     /// Commands that are brought to their limits.
     Limits,
+    /// Commands whose spans touch held ones.
+    Touches,
     /// A short journal that ends in a frame that cannot be read.
     Unreadable,
     /// Stretches of every kind.
@@ -20,7 +23,7 @@ pub enum Profile {
 }
 
 /// How many profiles there are.
-pub const PROFILES: u64 = WALKS.len() as u64 + 3;
+pub const PROFILES: u64 = WALKS.len() as u64 + 4;
 
 /// An input for a log program.
 pub struct Journal {
@@ -47,7 +50,8 @@ impl Profile {
         match number.checked_sub(WALKS.len()) {
             None => Profile::Walk(WALKS[number]),
             Some(0) => Profile::Limits,
-            Some(1) => Profile::Unreadable,
+            Some(1) => Profile::Touches,
+            Some(2) => Profile::Unreadable,
             Some(_) => Profile::Mixed,
         }
     }
@@ -56,6 +60,7 @@ impl Profile {
         match self {
             Profile::Walk(walk) => walk.name,
             Profile::Limits => "limits of a command",
+            Profile::Touches => "spans that touch held ones",
             Profile::Unreadable => "unreadable frames",
             Profile::Mixed => "mixed",
         }
@@ -65,6 +70,7 @@ impl Profile {
         match self {
             Profile::Walk(walk) => whole(draft, walk),
             Profile::Limits => limits(draft),
+            Profile::Touches => touches(draft),
             Profile::Unreadable => unreadable(draft),
             Profile::Mixed => mixed(draft),
         }
@@ -86,6 +92,16 @@ fn limits(draft: &mut Draft) {
     draft.end_all();
 }
 
+/// Two to six stretches in which spans touch held ones, with frames of any
+/// kind between them.
+fn touches(draft: &mut Draft) {
+    for _ in 0..draft.numbers.between(2, 6) {
+        any_walk(draft).stretch(draft, 5);
+        any_touches(draft);
+    }
+    draft.end_all();
+}
+
 /// Up to 40 frames, and one that cannot be read.
 fn unreadable(draft: &mut Draft) {
     let walk = any_walk(draft);
@@ -94,8 +110,8 @@ fn unreadable(draft: &mut Draft) {
     spoil(draft, walk);
 }
 
-/// Several stretches and now and then a brim. One journal in four ends in a
-/// frame that cannot be read.
+/// Several stretches, now and then a brim, and now and then spans that touch
+/// held ones. One journal in four ends in a frame that cannot be read.
 fn mixed(draft: &mut Draft) {
     for _ in 0..draft.numbers.between(4, 10) {
         let walk = any_walk(draft);
@@ -103,6 +119,9 @@ fn mixed(draft: &mut Draft) {
         walk.stretch(draft, frames);
         if draft.numbers.one_in(12) {
             any_brim(draft);
+        }
+        if draft.numbers.one_in(12) {
+            any_touches(draft);
         }
     }
     draft.end_all();

@@ -9,6 +9,7 @@
 //! - [`draft`]: a journal that is being put together.
 //! - [`walks`]: the kinds of stretches, with their figures; [`walk`] makes one.
 //! - [`brims`]: stretches that fill a command exactly.
+//! - [`touches`]: stretches of spans that touch held ones.
 //! - [`unreadable`]: frames that end a run.
 //! - [`journals`]: the profiles, and the journal of a seed.
 //! - [`fixed`]: the inputs that are compared in every run, some of them from
@@ -36,6 +37,7 @@ pub mod heads;
 pub mod journals;
 pub mod said;
 pub mod tally;
+pub mod touches;
 pub mod unreadable;
 pub mod walk;
 pub mod walks;

@@ -7,11 +7,12 @@ use crate::draft::WINDOW;
 use crate::walk::Walk;
 
 /// Every kind of stretch.
-pub const WALKS: [&Walk; 11] = [
+pub const WALKS: [&Walk; 12] = [
     &SMALL,
     &LARGE,
     &OVERLAPPING,
     &TOUCHING,
+    &SINGLES,
     &NESTED,
     &EMPTY,
     &WINDOW_END,
@@ -71,6 +72,19 @@ pub const TOUCHING: Walk = Walk {
     begins: 80,
     ends: 60,
     writes: 8,
+};
+
+/// Single bytes with gaps of one address, and those that close the gaps.
+pub const SINGLES: Walk = Walk {
+    name: "single bytes",
+    frames: (100, 400),
+    fills: false,
+    commands: 1,
+    region: 260,
+    span: spans::every_other,
+    begins: 100,
+    ends: 150,
+    writes: 12,
 };
 
 /// Spans inside and around earlier ones.

@@ -24,9 +24,11 @@ pub struct Census {
     /// Fetches that share a byte with an earlier span, neither inside the
     /// other.
     pub overlapping: u64,
-    /// Fetches that start where an earlier span stops, or stop where one
-    /// starts.
-    pub touching: u64,
+    /// Fetches that share no byte with an earlier span, by what they touch:
+    /// one that ends where they start, one that starts where they end, both.
+    pub touch_below: u64,
+    pub touch_above: u64,
+    pub touch_both: u64,
     /// Fetches inside or around an earlier span and not the same.
     pub nested: u64,
     /// Accepted fetches without a byte.
@@ -117,8 +119,13 @@ impl Census {
         let earlier = device.spans[command as usize].as_mut().unwrap();
         let meets = |meet: fn(Span, Span) -> bool| earlier.iter().any(|other| meet(span, *other));
         self.overlapping += u64::from(meets(overlap));
-        self.touching += u64::from(meets(touch));
         self.nested += u64::from(meets(nest));
+        if !meets(shares) {
+            let (below, above) = (meets(ends_below), meets(starts_above));
+            self.touch_below += u64::from(below && !above);
+            self.touch_above += u64::from(above && !below);
+            self.touch_both += u64::from(below && above);
+        }
         earlier.push(span);
     }
 }
@@ -177,8 +184,12 @@ fn overlap(one: Span, other: Span) -> bool {
     shares(one, other) && !inside(one, other) && !inside(other, one)
 }
 
-fn touch(one: Span, other: Span) -> bool {
-    end(one) == other.0 || end(other) == one.0
+fn ends_below(one: Span, other: Span) -> bool {
+    end(other) == one.0
+}
+
+fn starts_above(one: Span, other: Span) -> bool {
+    end(one) == other.0
 }
 
 fn nest(one: Span, other: Span) -> bool {

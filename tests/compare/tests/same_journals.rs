@@ -21,22 +21,24 @@ fn a_seed_gives_one_journal() {
     }
 }
 
-/// The sums of the journals of seeds 0 to 13, one of each profile.
+/// The sums of the journals of seeds 0 to 15, one of each profile.
 const CHECKSUMS: [u64; PROFILES as usize] = [
     0x150e_588f_c187_1c02,
     0x6e62_d30e_30da_9e10,
     0x9faa_2142_4de6_9c6e,
     0xcc59_7841_8b59_73c9,
-    0x26af_9eb3_145f_1af7,
-    0xe1a6_0868_4957_3188,
-    0x8bc8_e37f_3175_5d48,
-    0x11d7_d896_8262_9d43,
-    0xe675_364d_4e99_4c20,
-    0xd3e9_441b_76b2_9164,
-    0x313b_8311_4e70_13d7,
-    0xfd13_4969_0089_f639,
-    0x27a6_e81d_36eb_cdba,
-    0x3c92_233c_91f4_2dd0,
+    0x964d_d20f_b454_019b,
+    0x8822_e37e_7a2f_be8d,
+    0xa975_745d_3567_a2e3,
+    0xd080_95a5_ece8_9fc4,
+    0xa475_2383_c6ee_ba10,
+    0x0408_eea3_cdb1_e7d5,
+    0x479b_974e_b059_7012,
+    0xf4db_a3f9_7b36_cf1e,
+    0x8f8c_922d_a140_b995,
+    0xf6fb_39f3_9b6b_9269,
+    0xda44_73ec_3a45_207c,
+    0x7c32_8ccf_9dbe_8686,
 ];
 
 #[test]

@@ -39,8 +39,30 @@ fn overlapping_spans_overlap() {
 #[test]
 fn touching_spans_touch() {
     let census = readable("touching spans");
-    assert!(census.touching > 4_000, "{census:?}");
+    for count in [census.touch_below, census.touch_above, census.touch_both] {
+        assert!(count > 200, "{census:?}");
+    }
     assert!(census.overlapping > 2_000, "{census:?}");
+}
+
+#[test]
+fn single_bytes_close_gaps_and_run_out_of_records() {
+    let census = readable("single bytes");
+    for count in [census.touch_below, census.touch_above, census.touch_both] {
+        assert!(count > 200, "{census:?}");
+    }
+    assert!(census.tally.refused(24) > 500, "{census:?}");
+}
+
+#[test]
+fn held_spans_are_touched_on_either_side_on_both_and_at_the_limit() {
+    let census = readable("spans that touch held ones");
+    for count in [census.touch_below, census.touch_above] {
+        assert!(count > 150, "{census:?}");
+    }
+    assert!(census.touch_both > 5_000, "{census:?}");
+    assert!(census.tally.refused(24) > 1_000, "{census:?}");
+    assert!(census.empty > 500, "{census:?}");
 }
 
 #[test]
@@ -130,7 +152,9 @@ fn mixed_journals_have_everything() {
     assert_eq!(census.tally.missing(), [""; 0], "{census:?}");
     for count in [
         census.overlapping,
-        census.touching,
+        census.touch_below,
+        census.touch_above,
+        census.touch_both,
         census.nested,
         census.empty,
         census.last_byte,

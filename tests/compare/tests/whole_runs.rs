@@ -36,11 +36,11 @@ impl Run {
         }
     }
 
-    /// Puts one of the wrong programs to the test with 14 journals, one of
+    /// Puts one of the wrong programs to the test with 16 journals, one of
     /// each profile. It must fail.
     fn of_wrong(script: &str) -> Run {
         let path = format!("{}/tests/faulty/{script}", env!("CARGO_MANIFEST_DIR"));
-        let run = Run::new(&[path.as_str(), "--journals", "14", "--seed", "700"]);
+        let run = Run::new(&[path.as_str(), "--journals", "16", "--seed", "800"]);
         assert_eq!(run.status, Some(1), "{}", run.errors);
         assert!(run.sums().1 > TO_REACH, "{}", run.out);
         run
@@ -128,11 +128,11 @@ fn one_wrong_character_is_found() {
             "  found:    5 F Ok 4 4 0000616263640000\\n",
         ]
     );
-    let complaint = run.complaint("journal of seed 700, profile small spans");
+    let complaint = run.complaint("journal of seed 800, profile small spans");
     assert_eq!(complaint[0], "  line 5, column 5");
     assert!(complaint[1].starts_with("  expected: 5 H ok "));
     assert!(complaint[2].starts_with("  found:    5 H Ok "));
-    assert_eq!(run.out.matches("differs: journal of seed 7").count(), 14);
+    assert_eq!(run.out.matches("differs: journal of seed 8").count(), 16);
     assert!(!run.out.contains("differs: the empty input\n"));
 }
 
@@ -162,7 +162,7 @@ fn a_line_too_many_is_found() {
             "  found:    \\n",
         ]
     );
-    assert_eq!(run.wrong(), run.number("fixed cases compared: ") + 14);
+    assert_eq!(run.wrong(), run.number("fixed cases compared: ") + 16);
 }
 
 #[test]
@@ -190,7 +190,7 @@ fn a_last_line_that_is_not_said_is_found() {
             "  found:    (the output has ended)",
         ]
     );
-    assert_eq!(run.wrong(), run.number("fixed cases compared: ") + 14);
+    assert_eq!(run.wrong(), run.number("fixed cases compared: ") + 16);
 }
 
 #[test]
@@ -212,7 +212,7 @@ fn one_wrong_count_is_found() {
 fn a_wrong_status_is_found() {
     let run = Run::of_wrong("status-three.sh");
     assert_eq!(run.complaint("situation K"), ["  status: exit status: 3"]);
-    assert_eq!(run.wrong(), run.number("fixed cases compared: ") + 14);
+    assert_eq!(run.wrong(), run.number("fixed cases compared: ") + 16);
 }
 
 #[test]

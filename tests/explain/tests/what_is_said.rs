@@ -58,37 +58,51 @@ fn parts_and_records_stand_in_ascending_order() {
 }
 
 #[test]
-fn records_that_touch_are_parts_of_their_own() {
+fn a_fetch_that_touches_a_record_is_joined_with_it() {
     let journal = [
         frame(0, 5, 0, 0, &[]),
         frame(1, 5, 8, 2, &[]),
         frame(1, 5, 10, 2, &[]),
         frame(1, 5, 9, 2, &[]),
-        frame(1, 5, 9, 2, &[]),
+        frame(1, 5, 13, 1, &[]),
+        frame(1, 5, 12, 0, &[]),
+        frame(1, 5, 12, 1, &[]),
+        frame(1, 5, 7, 8, &[]),
     ]
     .concat();
     let expected = "\
 1 command 5 begins
 2 command 5 fetches 8+2: fresh 8+2 0000; records 8+2
-3 command 5 fetches 10+2: fresh 10+2 0000; records 8+2 10+2
-4 command 5 fetches 9+2: replayed 9+1 00, replayed 10+1 00; records 8+4
-5 command 5 fetches 9+2: replayed 9+2 0000; records 8+4
+3 command 5 fetches 10+2: fresh 10+2 0000; records 8+4
+4 command 5 fetches 9+2: replayed 9+2 0000; records 8+4
+5 command 5 fetches 13+1: fresh 13+1 00; records 8+4 13+1
+6 command 5 fetches 12+0: nothing; records 8+4 13+1
+7 command 5 fetches 12+1: fresh 12+1 00; records 8+6
+8 command 5 fetches 7+8: fresh 7+1 00, replayed 8+6 000000000000, fresh 14+1 00; records 7+8
 ";
     assert_eq!(said(&journal).out, expected);
 }
 
 #[test]
-fn random_journals_fetch_over_records_that_touch() {
-    let touching = |line: &str| {
-        let parts: Vec<&str> = line.split([':', ',']).collect();
-        let replayed = |part: &&str| part.starts_with(" replayed ");
-        parts.windows(2).any(|pair| pair.iter().all(replayed))
+fn parts_of_random_journals_are_fresh_and_replayed_by_turns() {
+    let kinds = |line: &str| -> Vec<bool> {
+        let parts = line.split([':', ',']);
+        let kind = |part: &str| match part.split(' ').nth(1) {
+            Some("fresh") => Some(true),
+            Some("replayed") => Some(false),
+            _ => None,
+        };
+        parts.filter_map(kind).collect()
     };
-    let cases = (0..28).map(|seed| said(&journal(seed).bytes));
-    let lines: usize = cases
-        .map(|said| said.out.lines().filter(|line| touching(line)).count())
-        .sum();
-    assert!(lines > 20, "{lines}");
+    let mut several = 0;
+    for seed in 0..32 {
+        for line in said(&journal(seed).bytes).out.lines() {
+            let kinds = kinds(line);
+            assert!(kinds.windows(2).all(|pair| pair[0] != pair[1]), "{line}");
+            several += u64::from(kinds.len() > 1);
+        }
+    }
+    assert!(several > 500, "{several}");
 }
 
 #[test]
