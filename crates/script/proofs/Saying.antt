@@ -8,9 +8,9 @@ use Rattle.state.specs.Verdict.{Reply, refused, replied, accepted}
 use Rattle.frames.specs.Kinds.{frameSize}
 use Rattle.frames.specs.Write.{writeSays}
 use Rattle.frames.proofs.Accepted.{writable, writes}
-use Rattle.steps.specs.declared.Step.{Step}
-use Rattle.steps.specs.declared.Meaning.{Meaning}
-use Rattle.steps.specs.declared.Meaning.the-variants.{Nothing, Step as StepMeant, Bad}
+use Rattle.fields.specs.declared.Step.{Step}
+use Rattle.fields.specs.declared.Meaning.{Meaning}
+use Rattle.fields.specs.declared.Meaning.the-variants.{Nothing, Step as StepMeant, Bad}
 use Rattle.steps.specs.Line.{lineMeans}
 use Rattle.steps.specs.Frame.{Said, nothing, faulty, answered, dataIn, meaningSays}
 use Rattle.script.specs.declared.judging.Judged.{Judged}

@@ -3,7 +3,7 @@ use crate::reason::put_fault;
 use crate::reason::put_refusal;
 use octets::put;
 use state::Refusal;
-use steps::Fault;
+use fields::Fault;
 use steps::Framed;
 
 // Where in a message the reason stands: behind the program and the number of the line.
