@@ -13,7 +13,8 @@ counted n noun = decimal n ++ (ascii " " ++ (noun ++ cond (eqb n 1) [] (ascii "s
 -- a run: its frames, those that were carried out, those that a call refused, and whether an unreadable one ended it
 unfoldable pub told : (frames carried refused : ℕ) (early : Bool) → List ℕ
 told frames carried refused early =
-    counted frames (ascii "frame") ++ (ascii ", " ++ (decimal carried ++ (ascii " ok, " ++ (decimal refused ++ (ascii " refused" ++ cond early (ascii ", 1 unreadable") [])))))
+    counted frames (ascii "frame")
+    ++ (ascii ", " ++ (decimal carried ++ (ascii " ok, " ++ (decimal refused ++ (ascii " refused" ++ cond early (ascii ", 1 unreadable") [])))))
 
 -- from which one on what is written was lost, where not all were kept
 unfoldable pub lost : (words : List ℕ) (all kept : ℕ) → List ℕ

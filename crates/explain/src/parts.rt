@@ -46,12 +46,23 @@ pub(crate) fn find(state: &[u16; CacheState::WORDS], command: usize, i: usize) -
     }
 }
 
-// Every part but the first has a comma before it.
 fn put_comma(line: &mut [u8], at: usize, from: usize) -> usize {
     if 0 < from {
         return put(line, at, b", ");
     }
     at
+}
+
+// What a part is, with a comma before every part but the first.
+fn put_kind(line: &mut [u8], at: usize, kind: &[u8], from: usize) -> usize {
+    let next = put_comma(line, at, from);
+    let next = put(line, next, kind);
+    put(line, next, b" ")
+}
+
+fn put_bytes(line: &mut [u8], at: usize, bytes: &[u8]) -> usize {
+    let next = put(line, at, b" ");
+    text::put_hex(line, next, bytes)
 }
 
 // The part of a fetch from one place up to another: what it is, its span and its bytes. A part of no bytes is left out.
@@ -68,17 +79,10 @@ fn put_part(
     if to <= from {
         return at;
     }
-    let next = put_comma(line, at, from);
-    let next = put(line, next, kind);
-    let next = put(line, next, b" ");
-    let next = put_span(
-        line,
-        next,
-        lesser(address, CacheState::WINDOW) + from,
-        to - from,
-    );
-    let next = put(line, next, b" ");
-    text::put_hex(line, next, &bytes[from..to])
+    let start = lesser(address, CacheState::WINDOW) + from;
+    let next = put_kind(line, at, kind, from);
+    let next = put_span(line, next, start, to - from);
+    put_bytes(line, next, &bytes[from..to])
 }
 
 fn put_fresh(

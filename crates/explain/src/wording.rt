@@ -15,39 +15,46 @@ fn put_command(line: &mut [u8], at: usize, command: usize) -> usize {
     put_decimal(line, next, command)
 }
 
+// What a command does.
+fn put_act(line: &mut [u8], at: usize, command: usize, act: &[u8]) -> usize {
+    let next = put_command(line, at, command);
+    put(line, next, act)
+}
+
+// What it does, and where.
+fn put_access(
+    line: &mut [u8],
+    at: usize,
+    command: usize,
+    act: &[u8],
+    address: usize,
+    size: usize,
+) -> usize {
+    let next = put_act(line, at, command, act);
+    put_span(line, next, address, size)
+}
+
+fn put_host_write(line: &mut [u8], at: usize, address: usize, size: usize) -> usize {
+    let next = put(line, at, b"the host writes ");
+    put_span(line, next, address, size)
+}
+
 // What a step asks.
 pub(crate) fn put_asked(line: &mut [u8], at: usize, step: Step) -> usize {
     match step {
-        Step::Begin { command } => {
-            let next = put_command(line, at, command);
-            put(line, next, b" begins")
-        }
+        Step::Begin { command } => put_act(line, at, command, b" begins"),
         Step::Fetch {
             command,
             address,
             size,
-        } => {
-            let next = put_command(line, at, command);
-            let next = put(line, next, b" fetches ");
-            put_span(line, next, address, size)
-        }
-        Step::End { command } => {
-            let next = put_command(line, at, command);
-            put(line, next, b" ends")
-        }
-        Step::HostWrite { address, size } => {
-            let next = put(line, at, b"the host writes ");
-            put_span(line, next, address, size)
-        }
+        } => put_access(line, at, command, b" fetches ", address, size),
+        Step::End { command } => put_act(line, at, command, b" ends"),
+        Step::HostWrite { address, size } => put_host_write(line, at, address, size),
         Step::OwnWrite {
             command,
             address,
             size,
-        } => {
-            let next = put_command(line, at, command);
-            let next = put(line, next, b" writes ");
-            put_span(line, next, address, size)
-        }
+        } => put_access(line, at, command, b" writes ", address, size),
     }
 }
 
@@ -131,11 +138,15 @@ fn put_none(line: &mut [u8], at: usize, records: usize) -> usize {
     at
 }
 
-fn put_record(line: &mut [u8], at: usize, i: usize, start: usize, len: usize) -> usize {
+// What stands before record i.
+fn put_gap(line: &mut [u8], at: usize, i: usize) -> usize {
     if i == 0 {
-        let next = put(line, at, b"; records ");
-        return put_span(line, next, start, len);
+        return put(line, at, b"; records ");
     }
-    let next = put(line, at, b" ");
+    put(line, at, b" ")
+}
+
+fn put_record(line: &mut [u8], at: usize, i: usize, start: usize, len: usize) -> usize {
+    let next = put_gap(line, at, i);
     put_span(line, next, start, len)
 }

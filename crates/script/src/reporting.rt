@@ -1,9 +1,9 @@
 // What is said on standard error of lines that are no steps.
 use crate::reason::put_fault;
 use crate::reason::put_refusal;
+use fields::Fault;
 use octets::put;
 use state::Refusal;
-use fields::Fault;
 use steps::Framed;
 
 // Where in a message the reason stands: behind the program and the number of the line.

@@ -55,14 +55,17 @@ loop-holds c =
 
 -- where the loop's test is made
 module _ (l : tie.At-loop Inv-loop μ-loop) where
+  abbrev measured : tie.After-lesser Inv-loop μ-loop
+  measured = l .before .before .before .before .before .before
+
   abbrev start : tie.Start Inv-loop μ-loop
-  start = l .before .before .before .before .before .before .before .before .before
+  start = measured .before .before .before
 
   abbrev text : List ℕ
   text = now (start .args .text)
 
-  size : l .before .before .before .before .before .before .lesser .result ≡ min (length text) 60
-  size = l .before .before .before .before .before .before .lesser .ensures
+  size : measured .lesser .result ≡ min (length text) 60
+  size = measured .lesser .ensures
 
   -- what is put since the call
   so-far : Puts (now (start .args .out)) (start .args .at) (quotedAll (take (l .loop .i) text)) (l .loop .next) (l .loop .out)

@@ -4,7 +4,7 @@ use native.Mathlib.Nat.{not-suc-le-zero}
 use native.Mathlib.Omega.{arith}
 use mathlib.Core.Path.{_≡_, refl, ap, sym, _∙_}
 use mathlib.Core.List.{List, [], _∷_, _++_}
-use mathlib.Core.Bool.{true, false}
+use mathlib.Core.Bool.{Bool, true, false}
 use lib.ListN.{length, getD}
 use denote.Ref.{now}
 use borrow.Author.Needs.{needs}
@@ -28,18 +28,29 @@ escaped [] one e = absurd (omega arith)
 escaped (x ∷ []) one e = rw e
 escaped (x ∷ (y ∷ rest)) one e = absurd (omega arith)
 
+-- where the byte was looked at
+module _ (t : tie.After-is-plain) where
+  abbrev start : tie.Start
+  start = t .before .before .before .before
+
+  abbrev text : List ℕ
+  text = now (start .args .text)
+
+  is : {b : Bool} → t .is-plain .result ≡ b → isPlain (getD text 0 0) ≡ b
+  is e = sym (t .is-plain .ensures) ∙ e
+
 returns : tie.Need-returns
 returns c =
-    let s = c .before .before .before .before .before .before .before .before .before in
-    let t = c .before .before .before .before in
-    puts-is (c .before .before .put .ensures) (plain (now (s .args .text)) (s .pre) (sym (t .before .is-plain .ensures) ∙ t .if1 .taken))
+    let then = c .before .before .before .before in
+    let t = then .before in
+    puts-is (c .before .before .put .ensures) (plain (text t) (start t .pre) (is t (then .if1 .taken)))
 
 returns-2 : tie.Need-returns-2
 returns-2 c =
-    let s = c .before .before .before .before .before .before .before .before .before .before .before .before .before .before in
     let sign = c .before .before .before .before .before .before in
-    let t = sign .before .before .before in
-    puts-is (puts-both (sign .put2 .ensures) (c .before .before .put-hex .ensures)) (escaped (now (s .args .text)) (s .pre) (sym (t .before .is-plain .ensures) ∙ t .if1 .left))
+    let else = sign .before .before .before in
+    let t = else .before in
+    puts-is (puts-both (sign .put2 .ensures) (c .before .before .put-hex .ensures)) (escaped (text t) (start t .pre) (is t (else .if1 .left)))
 
 pub quote-byte-spec : {M : Type 1} → statement M
 quote-byte-spec =

@@ -70,11 +70,14 @@ module _ (l : tie.At-loop Inv-loop μ-loop) where
 
 -- a frame printed
 module _ (g : tie.After-print-frame Inv-loop μ-loop) where
+  abbrev entered : tie.In-loop Inv-loop μ-loop
+  entered = g .before .before .before .before .before .before .before
+
   abbrev l : tie.At-loop Inv-loop μ-loop
-  l = g .before .before .before .before .before .before .before .before
+  l = entered .before
 
   inside : l .loop .at < length (input l)
-  inside = g .before .before .before .before .before .before .before .loop-test .taken
+  inside = entered .loop-test .taken
 
   shown :
       let after = g .print-frame .last .1 .1 in
@@ -107,20 +110,26 @@ returns c =
     let sum = c .summed .ensures in
     record { leaves = R .leaves; carried = sum .0 ∙ R .carried; refused = sum .1 ∙ R .refused; early = sum .2 ∙ R .early }
 
+-- a frame that was read and is counted
+module _ (c : tie.After-one-if2 Inv-loop μ-loop) where
+  abbrev printed : tie.After-print-frame Inv-loop μ-loop
+  printed = c .before .before .before .before .before .before .before .before .before .before .before
+
+  read : isReadable (frame (l printed)) ≡ true
+  read = was-read printed (c .before .if1 .left)
+
 add-at : tie.Need-add-at Inv-loop μ-loop
 add-at c =
-    let g = c .before .before .before .before .before .before .before .before .before .before .before in
-    let read = was-read g (c .before .if1 .left) in
+    let g = printed c in
     let most : l g .loop .at + g .print-frame .result .taken ≤ length (input (l g))
-    = omega (arith, shown g .taken, taken-read (frame (l g)) read .there, length-drop (l g .loop .at) (input (l g)), inside g) in
+    = omega (arith, shown g .taken, taken-read (frame (l g)) (read c) .there, length-drop (l g .loop .at) (input (l g)), inside g) in
     omega (arith, most, bound (l g))
 
 loop-again : tie.Need-loop-again Inv-loop μ-loop
 loop-again c =
-    let g = c .before .before .before .before .before .before .before .before .before .before .before in
-    let read = was-read g (c .before .if1 .left) in
+    let g = printed c in
     let count = ap (λ (k : ℕ). l g .loop .carried + k) (c .one-if2 .ensures .0 ∙ ap (λ (b : Bool). cond b 1 0) (shown g .accepted)) in (
-      running-turn (device (start (l g))) (input (l g)) [] _ _ 0 _ (d (l g)) [] (running (l g)) (inside g) 0 [] (nowhere (l g)) read (shown g .taken) count
+      running-turn (device (start (l g))) (input (l g)) [] _ _ 0 _ (d (l g)) [] (running (l g)) (inside g) 0 [] (nowhere (l g)) (read c) (shown g .taken) count
           (shown g .leaves),
       omega (arith, c .before .before .one-if .ensures),
       omega arith,
