@@ -13,22 +13,33 @@ use Rattle.integrity.specs.declared.Walk.{Walk}
 abbrev pub allZero : List ℕ → Bool
 allZero words = all (λ w. eqb w 0) words
 
--- one if a record breaks the chain: it starts below the lowest address at which it may, or is empty
-abbrev pub faultOf : (low start len : ℕ) → ℕ
-faultOf low start len = cond (leb low start && ltb 0 len) 0 1
+-- one if a record is empty
+abbrev pub emptyOf : (len : ℕ) → ℕ
+emptyOf len = cond (ltb 0 len) 0 1
 
--- one record more: the next may start behind the address after it
+-- one if a record breaks the chain: it starts at the end of the one before it or below, so that they share a byte or touch, or is empty
+abbrev pub faultOf : (end start len : ℕ) → ℕ
+faultOf end start len = cond (ltb end start && ltb 0 len) 0 1
+
+-- the first record, which may start at any address, and one record more
+abbrev pub begunBy : Record → Walk
+begunBy r = record { faults = emptyOf (r .len); end = past r; sum = r .len }
+
 abbrev pub walkedBy : Walk → Record → Walk
-walkedBy w r = record { faults = w .faults + faultOf (w .low) (r .start) (r .len); low = past r + 1; sum = w .sum + r .len }
+walkedBy w r = record { faults = w .faults + faultOf (w .end) (r .start) (r .len); end = past r; sum = w .sum + r .len }
 
 -- how large the numbers of a walk get in k records, so that no sum of the code wraps
 pub record Walking (w : Walk) (k : ℕ) : Type 0 where
   pub faults : w .faults ≤ k
-  pub low : w .low ≤ 131072
+  pub end : w .end ≤ 131072
   pub sum : w .sum ≤ 65536 * k
+
+pub record Begun (r : Record) (n : Walk) : Type 0 where
+  pub is : n ≡ begunBy r
+  pub small : Walking n 1
 
 pub record Walked (w : Walk) (r : Record) (n : Walk) : Type 0 where
   pub is : n ≡ walkedBy w r
   pub faults : n .faults ≤ w .faults + 1
-  pub low : n .low ≤ 131072
+  pub end : n .end ≤ 131072
   pub sum : n .sum ≤ w .sum + 65536

@@ -9,7 +9,7 @@ ghost use Rattle.state.specs.Limits.{recordLimit, heldLimit, commandWords, stat
 ghost use Rattle.state.specs.Records.{total};
 ghost use Rattle.state.specs.State.{recordsIn, ascending, isZero, commandHolds, holds};
 ghost use Rattle.state.specs.Words.{entriesIn, commandIn, stateOf};
-ghost use Rattle.integrity.specs.Holds.{allZero, faultOf, Walking, Walked};
+ghost use Rattle.integrity.specs.Holds.{allZero, emptyOf, faultOf, Begun, Walking, Walked};
 use state::CacheState;
 use state::Record;
 use words::entries::entry;
@@ -23,25 +23,44 @@ fn wide32(x: u16) -> u32
     x as u32
 }
 
-// One if a record starts below the lowest address at which it may, or is empty.
-fn fault(low: u32, start: u32, len: u32) -> u32
-    ensures { λ r. ⌜ (r ≡ faultOf low start len) × (r ≤ 1) ⌝ }
+// One if a record is empty.
+fn emptiness(len: u32) -> u32
+    ensures { λ r. ⌜ (r ≡ emptyOf len) × (r ≤ 1) ⌝ }
 {
-    if start < low {
-        return 1;
-    }
     if len == 0 {
         return 1;
     }
     0
 }
 
-// How far a walk over the records has come: the faults that it has met, the lowest address at which the next record may start, and the
-// bytes that they hold.
+// One if a record starts at the end of the one before it or below, or is empty.
+fn fault(end: u32, start: u32, len: u32) -> u32
+    ensures { λ r. ⌜ (r ≡ faultOf end start len) × (r ≤ 1) ⌝ }
+{
+    if start <= end {
+        return 1;
+    }
+    emptiness(len)
+}
+
+// How far a walk over the records has come: the faults that it has met, the address after the last record, and the bytes that they hold.
 struct Walk {
     faults: u32,
-    low: u32,
+    end: u32,
     sum: u32,
+}
+
+// The first record, which may start at any address.
+fn begun(r: Record) -> Walk
+    ensures { λ n. ⌜ Begun r n ⌝ }
+{
+    let start = wide32(r.start);
+    let len = wide32(r.len);
+    Walk {
+        faults: emptiness(len),
+        end: start + len,
+        sum: len,
+    }
 }
 
 fn walked(w: Walk, r: Record) -> Walk
@@ -51,8 +70,8 @@ fn walked(w: Walk, r: Record) -> Walk
     let start = wide32(r.start);
     let len = wide32(r.len);
     Walk {
-        faults: w.faults + fault(w.low, start, len),
-        low: start + len + 1,
+        faults: w.faults + fault(w.end, start, len),
+        end: start + len,
         sum: w.sum + len,
     }
 }
@@ -61,16 +80,12 @@ fn walked(w: Walk, r: Record) -> Walk
 // more bytes than a command may. Faults are counted, with no test before the end, since one is rare; and where each starts behind the one
 // before it, the last ends highest.
 fn records_hold(words: &[u16]) -> bool
-    requires { ⌜ length (now words) ≡ commandWords ⌝ }
+    requires { ⌜ (length (now words) ≡ commandWords) × (0 < length (recordsIn (commandIn (now words)))) ⌝ }
     ensures { λ r. ⌜ r ≡ (ascending 0 (recordsIn (commandIn (now (words .entry)))) && leb (total (recordsIn (commandIn (now (words .entry))))) heldLimit) ⌝ }
 {
     let n = used(words);
-    let mut w = Walk {
-        faults: 0,
-        low: 0,
-        sum: 0,
-    };
-    let mut i = 0;
+    let mut w = begun(entry(words, 0));
+    let mut i = 1;
     while i < n {
         w = walked(w, entry(words, i));
         i = i + 1;
@@ -78,7 +93,7 @@ fn records_hold(words: &[u16]) -> bool
     if 0 < w.faults {
         return false;
     }
-    if CacheState::WINDOW + 1 < w.low as usize {
+    if CacheState::WINDOW < w.end as usize {
         return false;
     }
     w.sum as usize <= CacheState::HELD

@@ -9,6 +9,7 @@ use Rattle.octets.specs.Lists.{all}
 use Rattle.state.specs.State.{isZero}
 use Rattle.state.proofs.Commands.{no-records, too-many, records-fail, unused-decide}
 use Rattle.state.specs.Words.{entriesIn, commandIn}
+use Rattle.words.proofs.EntryWords.{used-is}
 use borrow.Author.Needs.{needs}
 use Rattle.integrity.proofs.command_holds.Statement.{statement}
 use Rattle.integrity.proofs.command_holds.Tie as tie
@@ -21,6 +22,10 @@ returns c =
 
 returns-2 : tie.Need-returns-2
 returns-2 c = sym (too-many (commandIn (now (c .before .before .before .before .before .args .words))) (omega arith))
+
+-- a word above 1 is a record or more
+records-hold-requires : tie.Need-records-hold-requires
+records-hold-requires c κs = (omega arith, omega (arith, used-is (now (c .before .before .before .before .before .args .words))))
 
 returns-3 : tie.Need-returns-3
 returns-3 c = sym (records-fail (commandIn (now (c .before .before .before .before .before .before .before .args .words))) (sym (c .before .records-hold .ensures) ∙ not-true _ (c .if3 .taken)))
@@ -42,7 +47,7 @@ command-holds-spec =
     returns
     (λ c. search needs)
     returns-2
-    (λ c κs. search needs)
+    records-hold-requires
     returns-3
     (λ c κs. search needs)
     returns-4)

@@ -13,11 +13,11 @@ returns c =
     let start = f .before .before .wide32 .ensures .0 in
     let len = f .before .wide322 .ensures .0 in
     let w = f .before .before .before .args .w in
-    let faults = f .fault .ensures .0 ∙ ap₂ (faultOf (w .low)) start len in
+    let faults = f .fault .ensures .0 ∙ ap₂ (faultOf (w .end)) start len in
     record {
-      is = λ i. record { faults = w .faults + faults i; low = start i + len i + 1; sum = w .sum + len i };
+      is = λ i. record { faults = w .faults + faults i; end = start i + len i; sum = w .sum + len i };
       faults = omega arith;
-      low = omega arith;
+      end = omega arith;
       sum = omega arith;
     }
 
@@ -28,7 +28,6 @@ walked-spec =
     (λ c κs. search needs)
     (λ c κs. search needs)
     (λ c κs. search needs)
-    (λ c. search needs)
     (λ c. search needs)
     (λ c. search needs)
     (λ c. search needs)
