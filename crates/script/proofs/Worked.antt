@@ -2,14 +2,15 @@
 use mathlib.Core.Path.{_≡_, refl}
 use mathlib.Core.List.{[], _∷_}
 use Rattle.octets.specs.Text.{ascii}
-use Rattle.log.specs.Text.{readOn}
+use Rattle.text.specs.Decimal.{readOn}
 use Rattle.state.specs.Verdict.{verdict}
 use Rattle.frames.specs.Kinds.{dataSize}
 use Rattle.frames.specs.Checks.{notZero, zeroBroken}
 use Rattle.frames.specs.Write.{writeSays}
-use Rattle.steps.specs.Scan.{before, front, hexValue}
-use Rattle.steps.specs.Fields.{numberOf, numberField, dataFault, dataField, endFault}
-use Rattle.steps.specs.Line.{kindFor, kindNamed, hasSize, sizeOf, firstFault, judged as judgedFault, fieldsMean, stepMeans, textMeans}
+use Rattle.scan.specs.Scan.{before, front, hexValue}
+use Rattle.fields.specs.Fields.{numberOf, numberField, dataFault, dataField, endFault}
+use Rattle.fields.specs.Meanings.{hasSize, sizeOf, firstFault, judged as judgedFault, fieldsMean}
+use Rattle.steps.specs.Line.{kindFor, kindNamed, stepMeans, textMeans}
 use Rattle.steps.specs.Line.{isMarked, lineMeans}
 use Rattle.steps.specs.Frame.{meaningSays}
 use Rattle.script.specs.Judging.{inFront, lines, lineSays, judged, sum, judgedOf}
