@@ -1,21 +1,18 @@
 -- Laws of the walk over the rules of the records.
 use Prim.Native.Nat.{ℕ, suc, _+_, _<_, _≤_}
 use native.Mathlib.Omega.{arith}
-use native.Mathlib.Nat.{add-zero}
-use mathlib.Core.Path.{_≡_, refl, sym, _∙_}
+use mathlib.Core.Path.{_≡_, refl, sym}
 use mathlib.Core.List.{List, [], _∷_}
-use mathlib.Core.Bool.{Bool, true, false, cond, _&&_, and-true, and-false}
+use mathlib.Core.Bool.{Bool, true, false, cond, _&&_}
 use lib.Dec.{ltb, leb, eqb}
-use lib.ListN.{length, drop, getD}
-use borrow.Author.Tests.{ltb-true, leb-true, leb-false, le-leb, lt-leb, ne-eqb}
+use lib.ListN.{length}
+use borrow.Author.Tests.{ltb-true, leb-true, leb-false, le-leb, lt-leb, lt-ltb, le-ltb, eqb-true, eqb-false, eq-eqb, ne-eqb}
 use Rattle.octets.proofs.Lists.{and-left, and-right}
 use Rattle.state.specs.declared.Record.{Record}
 use Rattle.state.specs.Limits.{heldLimit, windowLimit}
 use Rattle.state.specs.Records.{past, total}
-use Rattle.state.specs.State.{CommandState, noRecord, recordsIn, ascending}
-use Rattle.state.proofs.Walk.{at-next}
-use Rattle.integrity.specs.declared.Walk.{Walk}
-use Rattle.integrity.specs.Holds.{begunBy, walkedBy}
+use Rattle.state.specs.State.{ascending}
+use Rattle.integrity.specs.Holds.{goodOf, goodAtZero}
 
 -- Records in a chain behind an address: each starts behind the address after the one before it, so that one lies between them, the first
 -- behind that address, and is not empty. A chain that ends where addresses do is records that ascend, so that a walk asks for that once, at
@@ -67,35 +64,54 @@ unfolding ascending chained chainEnd
 ascending-chained end [] low = sym (le-leb end windowLimit low)
 ascending-chained end (r ∷ rs) low = ascending-first (suc end) r rs (ascending-chained (past r) rs)
 
--- what a walk that has come so far has still to find
-abbrev pub keptFrom : Walk → List Record → Bool
-keptFrom w rs = eqb (w .faults) 0 && chained (w .end) rs && leb (chainEnd (w .end) rs) windowLimit && leb (w .sum + total rs) heldLimit
+-- The records that are good in a chain are counted
 
--- the first record begins it
-pub first-begun : (r : Record) (rs : List Record) → keptFrom (begunBy r) rs ≡ (ascending 0 (r ∷ rs) && leb (total (r ∷ rs)) heldLimit)
-unfolding total
-first-begun r rs = rw (ascending-first 0 r rs (ascending-chained (past r) rs), le-leb 0 (r .start) (omega arith), none (ltb 0 (r .len)))
+unfoldable pub goods : ℕ → List Record → ℕ
+goods end [] = 0
+goods end (r ∷ rs) = goodOf end (r .start) (r .len) + goods (past r) rs
+
+goods-most : (end : ℕ) (rs : List Record) → goods end rs ≤ length rs
+unfolding goods
+goods-most end [] = omega arith
+goods-most end (r ∷ rs) = go (ltb end (r .start) && ltb 0 (r .len)) (goods-most (past r) rs)
   where
-    none : (b : Bool) → eqb (cond b 0 1) 0 ≡ b
-    none true = refl
-    none false = refl
+    go : (b : Bool) → goods (past r) rs ≤ length rs → cond b 1 0 + goods (past r) rs ≤ suc (length rs)
+    go true most = omega arith
+    go false most = omega arith
 
-module _ (p : CommandState) (i : ℕ) (w : Walk) (h : i < length (recordsIn p)) {z : Bool} (e : keptFrom w (drop i (recordsIn p)) ≡ z) where
-  abbrev r : Record
-  r = getD (p .records) i noRecord
+-- one that is good or not in front of others, all of which are good or not
+all-of : (b : Bool) (g n : ℕ) → g ≤ n → eqb (cond b 1 0 + g) (suc n) ≡ (b && eqb g n)
+all-of true g n most = go (eqb g n) refl
+  where
+    go : (e : Bool) → eqb g n ≡ e → eqb (1 + g) (suc n) ≡ e
+    go true e = eq-eqb (1 + g) (suc n) (omega (arith, eqb-true g n e))
+    go false e = ne-eqb (1 + g) (suc n) (omega (arith, eqb-false g n e))
+all-of false g n most = ne-eqb (0 + g) (suc n) (omega arith)
 
-  one-fault : (b : Bool) → eqb (w .faults + cond b 0 1) 0 ≡ (eqb (w .faults) 0 && b)
-  one-fault true = rw (add-zero (w .faults)) (sym (and-true (eqb (w .faults) 0)))
-  one-fault false = ne-eqb (w .faults + 1) 0 (omega arith) ∙ sym (and-false (eqb (w .faults) 0))
+-- they are a chain if all are good
+all-good : (end : ℕ) (rs : List Record) → eqb (goods end rs) (length rs) ≡ chained end rs
+unfolding goods chained
+all-good end [] = refl
+all-good end (r ∷ rs) = rw (all-of (ltb end (r .start) && ltb 0 (r .len)) (goods (past r) rs) (length rs) (goods-most (past r) rs), all-good (past r) rs)
 
-  grouped : (f x c : Bool) → (f && x && c) ≡ (f && (x && c))
-  grouped true x c = refl
-  grouped false x c = refl
+-- the first may start at any address, 0 too
+first-good : (r : Record) (g : ℕ) → goodAtZero r + (goodOf 0 (r .start) (r .len) + g) ≡ cond (ltb 0 (r .len)) 1 0 + g
+first-good r g = go (eqb (r .start) 0) refl (ltb 0 (r .len))
+  where
+    go : (z : Bool) → eqb (r .start) 0 ≡ z → (b : Bool) → cond (z && b) 1 0 + (cond (ltb 0 (r .start) && b) 1 0 + g) ≡ cond b 1 0 + g
+    go true e b = rw (le-ltb 0 (r .start) (omega (arith, eqb-true (r .start) 0 e))) (omega arith)
+    go false e b = rw (lt-ltb 0 (r .start) (omega (arith, eqb-false (r .start) 0 e))) (omega arith)
 
-  pub record-walked : keptFrom (walkedBy w r) (drop (i + 1) (recordsIn p)) ≡ z
-  unfolding total chained chainEnd
-  record-walked =
-      let rest = drop (i + 1) (recordsIn p) in
-      let sound = ltb (w .end) (r .start) && ltb 0 (r .len) in
-      let sums : w .sum + r .len + total rest ≡ w .sum + (r .len + total rest) = omega arith in
-      rw (one-fault sound, grouped (eqb (w .faults) 0) sound (chained (past r) rest), sums) (at-next p i h (keptFrom w) e)
+-- so records are told by their goods, where they end, and their total
+pub kept-by : (r : Record) (rs : List Record)
+    → (eqb (goodAtZero r + goods 0 (r ∷ rs)) (length (r ∷ rs)) && leb (chainEnd 0 (r ∷ rs)) windowLimit && leb (total (r ∷ rs)) heldLimit)
+    ≡ (ascending 0 (r ∷ rs) && leb (total (r ∷ rs)) heldLimit)
+unfolding goods chainEnd
+kept-by r rs =
+    rw (
+      first-good r (goods (past r) rs),
+      all-of (ltb 0 (r .len)) (goods (past r) rs) (length rs) (goods-most (past r) rs),
+      all-good (past r) rs,
+      ascending-first 0 r rs (ascending-chained (past r) rs),
+      le-leb 0 (r .start) (omega arith),
+    )

@@ -13,33 +13,27 @@ use Rattle.integrity.specs.declared.Walk.{Walk}
 abbrev pub allZero : List ℕ → Bool
 allZero words = all (λ w. eqb w 0) words
 
--- one if a record is empty
-abbrev pub emptyOf : (len : ℕ) → ℕ
-emptyOf len = cond (ltb 0 len) 0 1
+-- one if a record is good in a chain: it starts behind the end of the one before it, so that they neither share a byte nor touch, and is not
+-- empty
+abbrev pub goodOf : (end start len : ℕ) → ℕ
+goodOf end start len = cond (ltb end start && ltb 0 len) 1 0
 
--- one if a record breaks the chain: it starts at the end of the one before it or below, so that they share a byte or touch, or is empty
-abbrev pub faultOf : (end start len : ℕ) → ℕ
-faultOf end start len = cond (ltb end start && ltb 0 len) 0 1
+-- one if a record that nothing stands before starts at address 0 and is not empty
+abbrev pub goodAtZero : Record → ℕ
+goodAtZero r = cond (eqb (r .start) 0 && ltb 0 (r .len)) 1 0
 
--- the first record, which may start at any address, and one record more
-abbrev pub begunBy : Record → Walk
-begunBy r = record { faults = emptyOf (r .len); end = past r; sum = r .len }
-
+-- one record more
 abbrev pub walkedBy : Walk → Record → Walk
-walkedBy w r = record { faults = w .faults + faultOf (w .end) (r .start) (r .len); end = past r; sum = w .sum + r .len }
+walkedBy w r = record { good = w .good + goodOf (w .end) (r .start) (r .len); end = past r; sum = w .sum + r .len }
 
--- how large the numbers of a walk get in k records, so that no sum of the code wraps
+-- how large the numbers of a walk get, so that no sum of the code wraps
 pub record Walking (w : Walk) (k : ℕ) : Type 0 where
-  pub faults : w .faults ≤ k
+  pub good : w .good ≤ k
   pub end : w .end ≤ 131072
   pub sum : w .sum ≤ 65536 * k
 
-pub record Begun (r : Record) (n : Walk) : Type 0 where
-  pub is : n ≡ begunBy r
-  pub small : Walking n 1
-
 pub record Walked (w : Walk) (r : Record) (n : Walk) : Type 0 where
   pub is : n ≡ walkedBy w r
-  pub faults : n .faults ≤ w .faults + 1
+  pub good : n .good ≤ w .good + 1
   pub end : n .end ≤ 131072
   pub sum : n .sum ≤ w .sum + 65536

@@ -9,11 +9,10 @@ ghost use Rattle.state.specs.Limits.{recordLimit, heldLimit, commandWords, stat
 ghost use Rattle.state.specs.Records.{total};
 ghost use Rattle.state.specs.State.{recordsIn, ascending, isZero, commandHolds, holds};
 ghost use Rattle.state.specs.Words.{entriesIn, commandIn, stateOf};
-ghost use Rattle.integrity.specs.Holds.{allZero, emptyOf, faultOf, Begun, Walking, Walked};
+ghost use Rattle.integrity.specs.Holds.{allZero, goodOf, goodAtZero, Walking, Walked};
 use state::CacheState;
 use state::Record;
 use words::entries::entry;
-use words::entries::used;
 use words::entries::wide;
 
 // A word in 32 bits, for a loop that is to look at several words in one instruction.
@@ -23,74 +22,71 @@ fn wide32(x: u16) -> u32
     x as u32
 }
 
-// One if a record is empty.
-fn emptiness(len: u32) -> u32
-    ensures { λ r. ⌜ (r ≡ emptyOf len) × (r ≤ 1) ⌝ }
-{
-    if len == 0 {
-        return 1;
-    }
-    0
-}
-
-// One if a record starts at the end of the one before it or below, or is empty.
-fn fault(end: u32, start: u32, len: u32) -> u32
-    ensures { λ r. ⌜ (r ≡ faultOf end start len) × (r ≤ 1) ⌝ }
+// One if a record starts behind the end of the one before it, with an address between them, and is not empty.
+fn good(end: u32, start: u32, len: u32) -> u32
+    ensures { λ r. ⌜ (r ≡ goodOf end start len) × (r ≤ 1) ⌝ }
 {
     if start <= end {
-        return 1;
+        return 0;
     }
-    emptiness(len)
+    if len == 0 {
+        return 0;
+    }
+    1
 }
 
-// How far a walk over the records has come: the faults that it has met, the address after the last record, and the bytes that they hold.
+// One if a record starts at address 0, where there is no end before it to start behind, and is not empty.
+fn good_at_zero(r: Record) -> u32
+    ensures { λ n. ⌜ (n ≡ goodAtZero r) × (n ≤ 1) ⌝ }
+{
+    if 0 < r.start {
+        return 0;
+    }
+    if r.len == 0 {
+        return 0;
+    }
+    1
+}
+
+// How far a walk over the records has come: how many were good, the address after the last, and the bytes that they hold.
 struct Walk {
-    faults: u32,
+    good: u32,
     end: u32,
     sum: u32,
 }
 
-// The first record, which may start at any address.
-fn begun(r: Record) -> Walk
-    ensures { λ n. ⌜ Begun r n ⌝ }
-{
-    let start = wide32(r.start);
-    let len = wide32(r.len);
-    Walk {
-        faults: emptiness(len),
-        end: start + len,
-        sum: len,
-    }
-}
-
 fn walked(w: Walk, r: Record) -> Walk
-    requires { ⌜ Walking w 63 ⌝ }
+    requires { ⌜ Walking w 64 ⌝ }
     ensures { λ n. ⌜ Walked w r n ⌝ }
 {
     let start = wide32(r.start);
     let len = wide32(r.len);
     Walk {
-        faults: w.faults + fault(w.end, start, len),
+        good: w.good + good(w.end, start, len),
         end: start + len,
         sum: w.sum + len,
     }
 }
 
-// Whether each record starts behind the one before it and does not touch it, is not empty and ends where addresses do, and they hold no
-// more bytes than a command may. Faults are counted, with no test before the end, since one is rare; and where each starts behind the one
-// before it, the last ends highest.
-fn records_hold(words: &[u16]) -> bool
-    requires { ⌜ (length (now words) ≡ commandWords) × (0 < length (recordsIn (commandIn (now words)))) ⌝ }
+// Whether each of the n records starts behind the one before it and does not touch it, is not empty and ends where addresses do, and they
+// hold no more bytes than a command may. Good records are counted, with no test before the end, since others are rare; and where each starts behind
+// the one before it, the last ends highest.
+fn records_hold(words: &[u16], n: usize) -> bool
+    requires { ⌜ (length (now words) ≡ commandWords) × (n ≡ length (recordsIn (commandIn (now words)))) × (0 < n) × (n ≤ recordLimit) ⌝ }
     ensures { λ r. ⌜ r ≡ (ascending 0 (recordsIn (commandIn (now (words .entry)))) && leb (total (recordsIn (commandIn (now (words .entry))))) heldLimit) ⌝ }
 {
-    let n = used(words);
-    let mut w = begun(entry(words, 0));
-    let mut i = 1;
+    let mut w = Walk {
+        good: good_at_zero(entry(words, 0)),
+        end: 0,
+        sum: 0,
+    };
+    let mut i = 0;
     while i < n {
         w = walked(w, entry(words, i));
         i = i + 1;
     }
-    if 0 < w.faults {
+    let good = w.good as usize;
+    if good != n {
         return false;
     }
     if CacheState::WINDOW < w.end as usize {
@@ -134,7 +130,7 @@ fn command_holds(words: &[u16]) -> bool
     if CacheState::RECORDS < count {
         return false;
     }
-    if !records_hold(words) {
+    if !records_hold(words, count) {
         return false;
     }
     unused_zero(words, count)

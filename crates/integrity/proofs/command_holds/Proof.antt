@@ -25,7 +25,9 @@ returns-2 c = sym (too-many (commandIn (now (c .before .before .before .before .
 
 -- a word above 1 is a record or more
 records-hold-requires : tie.Need-records-hold-requires
-records-hold-requires c κs = (omega arith, omega (arith, used-is (now (c .before .before .before .before .before .args .words))))
+records-hold-requires c κs =
+    let count = used-is (now (c .before .before .before .before .before .args .words)) in
+    (omega arith, omega (arith, count), omega arith, omega arith)
 
 returns-3 : tie.Need-returns-3
 returns-3 c = sym (records-fail (commandIn (now (c .before .before .before .before .before .before .before .args .words))) (sym (c .before .records-hold .ensures) ∙ not-true _ (c .if3 .taken)))
