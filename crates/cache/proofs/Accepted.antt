@@ -38,7 +38,8 @@ pub ended-open : (s : State) (storeLen c : ℕ) → accepted (endSays s storeLen
 unfolding endSays
 ended-open s storeLen c e = not-false _ (none-applies _ _ e .1 .1 .1 .0)
 
-pub ended-reply : (s : State) (storeLen c : ℕ) → accepted (endSays s storeLen c) ≡ true → endSays s storeLen c ≡ replied (length (recordsOf s c) ∷ total (recordsOf s c) ∷ [])
+pub ended-reply : (s : State) (storeLen c : ℕ) → accepted (endSays s storeLen c) ≡ true
+    → endSays s storeLen c ≡ replied (length (recordsOf s c) ∷ total (recordsOf s c) ∷ [])
 unfolding endSays
 ended-reply s storeLen c e = given _ _ e
 

@@ -8,7 +8,8 @@ use Rattle.octets.specs.Lists.{overwrite}
 use Rattle.state.specs.Records.{span, fresh, joined}
 use Rattle.state.specs.State.{State, recordsOf, open-with, withCommand}
 use Rattle.state.specs.Verdict.{Reply, replied, accepted, Check, verdict}
-use Rattle.state.specs.Checks.{lengthTooLong, commandTooHigh, windowTooLong, storeWrongSize, outsideWindow, bufferTooShort, stateBroken, commandNotOpen, tooManyBytes, tooManyRecords}
+use Rattle.state.specs.Checks.{lengthTooLong, commandTooHigh, windowTooLong, storeWrongSize, outsideWindow, bufferTooShort, stateBroken, commandNotOpen}
+use Rattle.state.specs.Checks.{tooManyBytes, tooManyRecords}
 use Rattle.store.specs.Store.{location, packed, byteAt, sees}
 
 module _ (s : State) (storeLen windowLen destLen c a n : ℕ) where

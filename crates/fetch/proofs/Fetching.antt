@@ -213,7 +213,8 @@ module _ (s : State) (store window dest : List ℕ) (c a n : ℕ) (e : accepted 
   bytes-are = omega (arith, sum, judged .fresh)
 
   pub over-bytes : heldLimit < bytesOf p j → Leaves s store window dest c a n (Refused TooManyBytes) s store dest
-  over-bytes h = refusing s store window dest c a n TooManyBytes (too-many-bytes s (length store) (length window) (length dest) c a n e (omega (arith, bytes-are)))
+  over-bytes h =
+      refusing s store window dest c a n TooManyBytes (too-many-bytes s (length store) (length window) (length dest) c a n e (omega (arith, bytes-are)))
 
   module _ (room : bytesOf p j ≤ heldLimit) where
     room-is : total (recordsIn p) + fresh (recordsIn p) a n ≤ heldLimit

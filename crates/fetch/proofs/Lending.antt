@@ -29,11 +29,13 @@ use Rattle.admission.specs.declared.plan.Finding.{Finding}
 use Rattle.admission.specs.declared.plan.Finding.the-variants.{Span, Bytes, Records}
 use Rattle.admission.specs.Plan.{Plan, Plans}
 use Rattle.fetch.specs.Fetch.{Fetches}
-use Rattle.fetch.proofs.Fetching.{Leaves, Admits, admits, barred-fetch, none-fetched, fresh-most, over-bytes, over-records, span-fits, place-fits, span-fetched}
+use Rattle.fetch.proofs.Fetching.{Leaves, Admits, admits, barred-fetch, none-fetched, fresh-most, over-bytes, over-records, span-fits, place-fits}
+use Rattle.fetch.proofs.Fetching.{span-fetched}
 
 -- refused, and of no bytes: the words are as they were
 module _ (words store window dest : List ℕ) (c a n : ℕ) where
-  pub unchanged : (r : FetchAnswer) → Leaves (stateOf words) store window dest c a n r (stateOf words) store dest → Fetches words store window dest c a n r words store dest
+  pub unchanged : (r : FetchAnswer) → Leaves (stateOf words) store window dest c a n r (stateOf words) store dest
+      → Fetches words store window dest c a n r words store dest
   unchanged r L = record { answer = L .answer; state = L .state; kept = λ _. refl; bytes = L .bytes; delivered = L .delivered }
 
   pub barred :
@@ -78,7 +80,8 @@ pub record SpanRoom (words store window dest : List ℕ) (c a n : ℕ) (m : Meet
   pub fresh : new ≤ n
   pub done :
       (ws store′ dest′ : List ℕ) → length ws ≡ commandWords → commandIn ws ≡ spliced (commandIn (lent words c)) m → store′ ≡ heldOf (commandIn (lent words c)) c store window m
-      → dest′ ≡ overwrite dest 0 (part store′ (partStart c + place) n) → Fetches words store window dest c a n (Done new (n - new)) (returned words c ws) store′ dest′
+      → dest′ ≡ overwrite dest 0 (part store′ (partStart c + place) n)
+      → Fetches words store window dest c a n (Done new (n - new)) (returned words c ws) store′ dest′
 
 -- A span. All is told of the command's words as they are lent.
 module _ (words store window dest : List ℕ) (c a n : ℕ) (whole : length words ≡ stateWords)
@@ -175,7 +178,9 @@ module _ (words store window dest : List ℕ) (c a n : ℕ) (whole : length word
     pub room : SpanRoom words store window dest c a n m fresh place behind
     room = record {
       fits = subst (λ (q : CommandState). Fits q m fresh heldLimit 0 (length window)) (sym own) joined-fits;
-      behind = P .rest ∙ ap (λ (k : Meeting). total (drop (k .last) (recordsIn p))) (sym (P .meets)) ∙ ap (λ (q : CommandState). total (drop (m .last) (recordsIn q))) (sym own);
+      behind =
+          P .rest ∙ ap (λ (k : Meeting). total (drop (k .last) (recordsIn p))) (sym (P .meets))
+          ∙ ap (λ (q : CommandState). total (drop (m .last) (recordsIn q))) (sym own);
       placed = omega (arith, P .stands, place-fits s store window dest c a n e some sized (P .bytes) (P .few));
       opened = ap (λ (q : CommandState). q .opened) own ∙ A .opened;
       order = joined-fits .cut .order;

@@ -35,11 +35,13 @@ module _ (rs : List Record) (location : ℕ → ℕ) (store window : List ℕ) (
   count-firsts [] = refl
   count-firsts (x ∷ xs) = go (held rs x) refl (count-firsts xs)
     where
-      go : (b : Bool) → held rs x ≡ b → countFresh rs xs ≡ length (firstsAmong known window xs) → countFresh rs (x ∷ xs) ≡ length (firstsAmong known window (x ∷ xs))
+      go : (b : Bool) → held rs x ≡ b → countFresh rs xs ≡ length (firstsAmong known window xs)
+          → countFresh rs (x ∷ xs) ≡ length (firstsAmong known window (x ∷ xs))
       go true h ih = rw (h, same x, h) ih
       go false h ih = rw (h, same x, h) (ap suc ih)
 
-counts-here : (m : Machine) (mem : Memory) (p : Call) (b : Bool) → accepted (says m p) ≡ b → Sound m mem → countsIn (says m p) (deedOf b p) ≡ countsBy mem (deedOf b p)
+counts-here : (m : Machine) (mem : Memory) (p : Call) (b : Bool) → accepted (says m p) ≡ b → Sound m mem
+    → countsIn (says m p) (deedOf b p) ≡ countsBy mem (deedOf b p)
 unfolding countsBy
 counts-here m mem p false e S = refl
 counts-here m mem (begin c) true e S = refl
@@ -52,7 +54,8 @@ counts-here m mem (hostWrite a bytes window) true e S = refl
 counts-here m mem (ownWrite c a bytes window) true e S = refl
 counts-here m mem (show c i) true e S = refl
 
-counts-along : (past : List Event) (m : Machine) (ps : List Call) → Sound m (memory past) → told countsReplied past (along event m ps) ≡ told countsOwed past (along event m ps)
+counts-along : (past : List Event) (m : Machine) (ps : List Call) → Sound m (memory past)
+    → told countsReplied past (along event m ps) ≡ told countsOwed past (along event m ps)
 unfolding told along memory
 counts-along past m [] S = refl
 counts-along past m (p ∷ ps) S =
@@ -107,7 +110,8 @@ summed-after m mem sums (hostWrite a bytes window) true e S C = C
 summed-after m mem sums (ownWrite c a bytes window) true e S C = C
 summed-after m mem sums (show c i) true e S C = C
 
-sum-here : (m : Machine) (sums : ℕ → ℕ) (p : Call) (b : Bool) → accepted (says m p) ≡ b → Summed m sums → bytesIn (says m p) (deedOf b p) ≡ sumBy sums (deedOf b p)
+sum-here : (m : Machine) (sums : ℕ → ℕ) (p : Call) (b : Bool) → accepted (says m p) ≡ b → Summed m sums
+    → bytesIn (says m p) (deedOf b p) ≡ sumBy sums (deedOf b p)
 sum-here m sums p false e C = refl
 sum-here m sums (begin c) true e C = refl
 sum-here m sums (fetch c a n dest window) true e C = refl

@@ -21,7 +21,8 @@ use Rattle.history.proofs.Effects.{refused-same, old, grown, packed, fe
 use Rattle.history.proofs.Sound.{Sound, sound-start, sound-after}
 use Rattle.history.proofs.Memories.{alongMemory, told-memory}
 use Rattle.history.proofs.Delivery.{delivery}
-use Rattle.history.proofs.Alike.{Alike, begins, fetches, ends, hostWrites, ownWrites, shows, Alikes, nil, next, alikes, Twin, says-alike, state-alike, View, same, fetching, view}
+use Rattle.history.proofs.Alike.{Alike, begins, fetches, ends, hostWrites, ownWrites, shows, Alikes, nil, next, alikes, Twin, says-alike, state-alike}
+use Rattle.history.proofs.Alike.{View, same, fetching, view}
 use Rattle.history.proofs.Values.{value, firsts-values, values-firsts, owed-values, values-owed, values-remember, at-span, in-span}
 
 -- Twins stay twins.
@@ -76,10 +77,12 @@ firsts-carry d e mem (fetching {c} {a} {n} {w} {v}) h =
 
 module _ (m : Machine) (mem : Memory) (S : Sound m mem) (c a n : ℕ) (w v : List ℕ) (opened : isOpen (m .state) c ≡ true)
     (values : map (value (mem c) w) (span a n) ≡ map (value (mem c) v) (span a n)) where
-  sees-equal : (x : ℕ) → held (grown m c a n) x ≡ true → sees (old m c) (location (m .state) c) (m .store) (byteAt w) x ≡ sees (old m c) (location (m .state) c) (m .store) (byteAt v) x
+  sees-equal : (x : ℕ) → held (grown m c a n) x ≡ true
+      → sees (old m c) (location (m .state) c) (m .store) (byteAt w) x ≡ sees (old m c) (location (m .state) c) (m .store) (byteAt v) x
   sees-equal x h = go (held (old m c) x) refl
     where
-      go : (b : Bool) → held (old m c) x ≡ b → sees (old m c) (location (m .state) c) (m .store) (byteAt w) x ≡ sees (old m c) (location (m .state) c) (m .store) (byteAt v) x
+      go : (b : Bool) → held (old m c) x ≡ b
+          → sees (old m c) (location (m .state) c) (m .store) (byteAt w) x ≡ sees (old m c) (location (m .state) c) (m .store) (byteAt v) x
       go true e = rw e
       go false e =
           let near : inSpan a n x ≡ true = rw (held-joined (old m c) a n x, e) at h in
@@ -95,7 +98,8 @@ accepted-alike : (m : Machine) (p q : Call) {b : Bool} → Alike p q → accepte
 accepted-alike m p q A e = ap accepted (sym (says-alike {m = m} {k = m} {p = p} {q = q} (twin refl) A)) ∙ e
 
 stores-alike :
-    {m : Machine} {p q : Call} (mem : Memory) (b : Bool) → Sound m mem → Alike p q → accepted (says m p) ≡ b → firstsBy mem (deedOf b p) ≡ firstsBy mem (deedOf b q)
+    {m : Machine} {p q : Call} (mem : Memory) (b : Bool) → Sound m mem → Alike p q → accepted (says m p) ≡ b
+    → firstsBy mem (deedOf b p) ≡ firstsBy mem (deedOf b q)
     → storeAfter m p ≡ storeAfter m q
 unfolding firstsBy
 stores-alike {m} {p} {q} mem false S A e f = ap (λ (j : Machine). j .store) (refused-same m p e ∙ sym (refused-same m q (accepted-alike m p q A e)))

@@ -27,7 +27,8 @@ pub record Whole (s : State) : Type 0 where
 pub whole-start : (store : List ℕ) → Whole (start store .state)
 whole-start store = record { whole = fresh-holds; shape = fresh-shape }
 
-pub whole-replaced : {m : Machine} {c : ℕ} {next : CommandState} {bytes : List ℕ} → Fits m c next bytes → Whole (m .state) → Whole (replaced m c next bytes .state)
+pub whole-replaced : {m : Machine} {c : ℕ} {next : CommandState} {bytes : List ℕ} → Fits m c next bytes → Whole (m .state)
+    → Whole (replaced m c next bytes .state)
 whole-replaced {m} {c} {next} F W =
     record { whole = holds-with (m .state) c next (W .whole) (F .sound); shape = shape-with (m .state) c next (W .shape) (F .shaped) }
 

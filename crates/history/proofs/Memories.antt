@@ -11,7 +11,8 @@ module _ {A : Type 0} (g : Memory → Deed → A) where
   alongMemory mem m [] = []
   alongMemory mem m (p ∷ ps) = let d = deedOf (accepted (says m p)) p in g mem d ∷ alongMemory (remember mem d) (after m p) ps
 
-  pub told-memory : (past : List Event) (m : Machine) (ps : List Call) → told (λ before e. g (memory before) (deed e)) past (along event m ps) ≡ alongMemory (memory past) m ps
+  pub told-memory : (past : List Event) (m : Machine) (ps : List Call)
+      → told (λ before e. g (memory before) (deed e)) past (along event m ps) ≡ alongMemory (memory past) m ps
   unfolding told along alongMemory memory
   told-memory past m [] = refl
   told-memory past m (p ∷ ps) = ap (λ (rest : List A). g (memory past) (deedOf (accepted (says m p)) p) ∷ rest) (told-memory (event m p ∷ past) (after m p) ps)

@@ -24,7 +24,8 @@ use Rattle.cache.specs.Runs.{Call, begin, fetch, end, hostWrite, ownWrite, show
 use Rattle.history.specs.Journal.{Event, event, backwards, deedOf}
 use Rattle.history.specs.Firsts.{Value, none, first, orElse, Memory, remember, memory}
 use Rattle.history.proofs.Replaced.{replaced, Fits, byte-other, length-replaced}
-use Rattle.history.proofs.Effects.{refused-same, old, grown, packed, zeros, begin-after, end-after, fetch-after, begin-fits, end-fits, packed-fits, length-packed, ascending-grown, total-grown}
+use Rattle.history.proofs.Effects.{refused-same, old, grown, packed, zeros, begin-after, end-after, fetch-after, begin-fits, end-fits, packed-fits}
+use Rattle.history.proofs.Effects.{length-packed, ascending-grown, total-grown}
 use Rattle.history.proofs.Invariant.{Whole, whole-start, whole-replaced}
 
 -- what the records and the store say of an address
@@ -64,10 +65,12 @@ module _ (m : Machine) (c : ℕ) (next : CommandState) (bytes : List ℕ) (F : F
       go true h = rw h (ap first (byte-other F d (place rs x) apart (omega (arith, place-below 0 rs x (K .up) h, K .small))))
       go false h = rw h
 
-  known-replaced : (d x : ℕ) → Known (commandOf (withCommand (m .state) c next) d) (location (replaced m c next bytes .state) d) (replaced m c next bytes .store) mem′ d x
+  known-replaced : (d x : ℕ)
+      → Known (commandOf (withCommand (m .state) c next) d) (location (replaced m c next bytes .state) d) (replaced m c next bytes .store) mem′ d x
   known-replaced d x = go (eqb d c) refl
     where
-      go : (b : Bool) → eqb d c ≡ b → Known (commandOf (withCommand (m .state) c next) d) (location (replaced m c next bytes .state) d) (replaced m c next bytes .store) mem′ d x
+      go : (b : Bool) → eqb d c ≡ b
+          → Known (commandOf (withCommand (m .state) c next) d) (location (replaced m c next bytes .state) d) (replaced m c next bytes .store) mem′ d x
       go true e =
           subst (λ (k : ℕ). Known (commandOf (withCommand (m .state) c next) k) (location (replaced m c next bytes .state) k) (replaced m c next bytes .store) mem′ k x) (sym (eqb-true d c e))
           (subst (λ (p : CommandState). Known p (location (replaced m c next bytes .state) c) (replaced m c next bytes .store) mem′ c x)

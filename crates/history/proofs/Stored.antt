@@ -67,7 +67,9 @@ module _ (m : Machine) (mem : Memory) (S : Sound m mem) (c : ℕ) (o : isOpen (m
   part-known : packedBytes (m .state) (m .store) c (total rs) ≡ map (λ x. recall (mem c x)) (addresses rs)
   part-known =
       packed-part (m .state) (m .store) c (total rs) part-fits
-      ∙ sym (map-held (λ x. recall (mem c x)) (λ x. getD (m .store) (partStart c + place rs x) 0) rs (λ x h. rw (S .known c x o, h)) ∙ packed-back (m .store) (partStart c) 0 rs (K .up) part-fits)
+      ∙ sym
+      (map-held (λ x. recall (mem c x)) (λ x. getD (m .store) (partStart c + place rs x) 0) rs (λ x h. rw (S .known c x o, h))
+      ∙ packed-back (m .store) (partStart c) 0 rs (K .up) part-fits)
 
 pub records-told : RecordsTold
 records-told store ps c o =

@@ -16,7 +16,8 @@ use Rattle.state.specs.State.{holds, hasShape, commandOf, recordsOf, isOpen}
 use Rattle.state.specs.Words.{stateOf}
 use Rattle.state.specs.Verdict.{refused, replied, accepted}
 use Rattle.store.specs.Store.{partStart, location, packedBytes}
-use Rattle.cache.specs.Runs.{Call, begin, fetch, end, hostWrite, ownWrite, show, Machine, start, along, ran, says, stateAfter, storeAfter, after, destGiven, destAfter, windowGiven, windowAfter, delivers}
+use Rattle.cache.specs.Runs.{Call, begin, fetch, end, hostWrite, ownWrite, show, Machine, start, along, ran, says, stateAfter, storeAfter, after, destGiven}
+use Rattle.cache.specs.Runs.{destAfter, windowGiven, windowAfter, delivers}
 use Rattle.history.specs.Journal.{Event, event, journal, told, backwards, Deed, began, fetched, ended, other, deed}
 use Rattle.history.specs.Firsts.{Memory, memory, isKnown, fetchedSince, firsts, recall, owed}
 use Rattle.history.specs.Counts.{countsReplied, countsOwed, bytesReplied, sumOwed}
@@ -50,7 +51,8 @@ abbrev pub memoryAfter : List ℕ → List Call → Memory
 memoryAfter store ps = memory (backwards [] (journal store ps))
 
 pub record Holding (store : List ℕ) (ps : List Call) (c : ℕ) : Type 0 where
-  pub within : (k : ℕ) → k < total (recordsOf (ran (start store) ps .state) c) → location (ran (start store) ps .state) c k < length (ran (start store) ps .store)
+  pub within : (k : ℕ) → k < total (recordsOf (ran (start store) ps .state) c)
+      → location (ran (start store) ps .state) c k < length (ran (start store) ps .store)
   pub bytes :
       packedBytes (ran (start store) ps .state) (ran (start store) ps .store) c (total (recordsOf (ran (start store) ps .state) c))
       ≡ map (λ x. recall (memoryAfter store ps c x)) (addresses (recordsOf (ran (start store) ps .state) c))

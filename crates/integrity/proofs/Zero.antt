@@ -59,7 +59,8 @@ entries-words words k (suc m) size =
     go false c d = refl
 
 -- the entries from n on
-pub unused-words : (words : List ℕ) (n : ℕ) → length words ≡ commandWords → n ≤ recordLimit → all isZero (drop n (entriesIn words)) ≡ allZero (drop (2 * n + 1) words)
+pub unused-words : (words : List ℕ) (n : ℕ) → length words ≡ commandWords → n ≤ recordLimit
+    → all isZero (drop n (entriesIn words)) ≡ allZero (drop (2 * n + 1) words)
 unfolding entriesIn
 unused-words words n size few =
     let both : span 0 recordLimit ≡ span 0 n ++ span n (recordLimit - n) =

@@ -138,7 +138,8 @@ sealed ws m count u size few is = record {
 pub up-none : (ws : List ℕ) (used : ℕ) → MovedUp ws used used ws
 up-none ws used = record { size = refl; head = refl; below = λ j h. refl; moved = λ j h k. absurd (omega arith); above = λ j h. refl }
 
-pub up-step : (ws words : List ℕ) (k used : ℕ) (r : Record) → length words ≡ commandWords → 0 < k → k ≤ used → used < recordLimit → MovedUp ws k used words → r ≡ recordAt words (k - 1)
+pub up-step : (ws words : List ℕ) (k used : ℕ) (r : Record) → length words ≡ commandWords → 0 < k → k ≤ used → used < recordLimit → MovedUp ws k used words
+    → r ≡ recordAt words (k - 1)
     → MovedUp ws (k - 1) used (stored words k r)
 up-step ws words k used r whole some within few u is = record {
   size = stored-size words k r ∙ u .size;
@@ -156,7 +157,8 @@ up-step ws words k used r whole some within few u is = record {
 pub down-none : (ws : List ℕ) (to from : ℕ) → MovedDown ws to from to ws
 down-none ws to from = record { size = refl; head = refl; below = λ j h. refl; moved = λ j h k. absurd (omega arith); above = λ j h. refl }
 
-pub down-step : (ws words : List ℕ) (to from k at : ℕ) (r : Record) → length words ≡ commandWords → to ≤ from → to ≤ k → k < recordLimit → at ≡ from + (k - to) → MovedDown ws to from k words
+pub down-step : (ws words : List ℕ) (to from k at : ℕ) (r : Record) → length words ≡ commandWords → to ≤ from → to ≤ k → k < recordLimit → at ≡ from + (k - to)
+    → MovedDown ws to from k words
     → r ≡ cond (ltb at recordLimit) (recordAt words at) noRecord → MovedDown ws to from (k + 1) (stored words k r)
 down-step ws words to from k at r whole down behind few place d is = record {
   size = stored-size words k r ∙ d .size;
@@ -167,9 +169,12 @@ down-step ws words to from k at r whole down behind few place d is = record {
 }
   where
     here : r ≡ cond (ltb (from + (k - to)) recordLimit) (recordAt ws (from + (k - to))) noRecord
-    here = is ∙ ap (λ (e : Record). cond (ltb at recordLimit) e noRecord) (d .above at (omega arith)) ∙ ap (λ (i : ℕ). cond (ltb i recordLimit) (recordAt ws i) noRecord) place
+    here =
+        is ∙ ap (λ (e : Record). cond (ltb at recordLimit) e noRecord) (d .above at (omega arith))
+        ∙ ap (λ (i : ℕ). cond (ltb i recordLimit) (recordAt ws i) noRecord) place
 
-    go : (j : ℕ) → to ≤ j → j < k + 1 → (b : Bool) → eqb j k ≡ b → recordAt (stored words k r) j ≡ cond (ltb (from + (j - to)) recordLimit) (recordAt ws (from + (j - to))) noRecord
+    go : (j : ℕ) → to ≤ j → j < k + 1 → (b : Bool) → eqb j k ≡ b
+        → recordAt (stored words k r) j ≡ cond (ltb (from + (j - to)) recordLimit) (recordAt ws (from + (j - to))) noRecord
     go j h l true e = let same : j ≡ k = eqb-true j k e in rw same (stored-same words k r (omega arith) ∙ here)
     go j h l false e = let other : j ≢ k = eqb-false j k e in stored-other words k r j other ∙ d .moved j h (omega arith)
 
@@ -184,9 +189,12 @@ module _ (ws mid next : List ℕ) (m : Meeting) where
       → ((j : ℕ) → m .first < j → j < changedUpTo used m → recordAt mid j ≡ getD (entriesIn ws) (m .last + (j - suc (m .first))) noRecord)
       → ((j : ℕ) → changedUpTo used m ≤ j → (m .first < j) × (recordAt mid j ≡ recordAt ws j))
       → commandIn next ≡ spliced (commandIn ws) m
-  spliced-sealed opened s low behind high = spliced-words ws next m opened (s .head) (λ j h l. go j h l (ltb j (m .first)) refl (eqb j (m .first)) refl) (λ j h l. s .others j (inr (high j h .0)) ∙ high j h .1)
+  spliced-sealed opened s low behind high =
+      spliced-words ws next m opened (s .head) (λ j h l. go j h l (ltb j (m .first)) refl (eqb j (m .first)) refl)
+      (λ j h l. s .others j (inr (high j h .0)) ∙ high j h .1)
     where
-      go : (j : ℕ) → j < changedUpTo used m → j < recordLimit → (b : Bool) → ltb j (m .first) ≡ b → (e : Bool) → eqb j (m .first) ≡ e → recordAt next j ≡ entryAfter (entriesIn ws) m j
+      go : (j : ℕ) → j < changedUpTo used m → j < recordLimit → (b : Bool) → ltb j (m .first) ≡ b → (e : Bool) → eqb j (m .first) ≡ e
+          → recordAt next j ≡ entryAfter (entriesIn ws) m j
       go j h l true b e f = let lt = ltb-true j (m .first) b in s .others j (inl lt) ∙ low j lt ∙ sym (entry-before (entriesIn ws) m j lt ∙ entry-at ws j l)
       go j h l false b true f = let same : j ≡ m .first = eqb-true j (m .first) f in rw same (s .union ∙ sym (entry-union (entriesIn ws) m (m .first) refl))
       go j h l false b false f =
@@ -204,7 +212,8 @@ unfolding changedUpTo
 changed-more n m e = rw (ne-eqb (m .last) (m .first + 1) e)
 
 -- the three cases of a splice: for one record, for none, for more
-module _ (ws mid next : List ℕ) (m : Meeting) (opened : commandIn ws .opened ≡ true) (n : ℕ) (is : n ≡ length (recordsIn (commandIn ws))) (s : Sealed mid m (m .first + 1 + (n - m .last)) next) where
+module _ (ws mid next : List ℕ) (m : Meeting) (opened : commandIn ws .opened ≡ true) (n : ℕ) (is : n ≡ length (recordsIn (commandIn ws)))
+    (s : Sealed mid m (m .first + 1 + (n - m .last)) next) where
   counted : Sealed mid m (m .first + 1 + (length (recordsIn (commandIn ws)) - m .last)) next
   counted = subst (λ (k : ℕ). Sealed mid m (m .first + 1 + (k - m .last)) next) is s
 
@@ -222,7 +231,8 @@ module _ (ws mid next : List ℕ) (m : Meeting) (opened : commandIn ws .opened �
       u .moved j h (omega arith) ∙ rw place (sym (entry-at ws (j - 1) (omega arith))))
       (λ j h. (omega arith, u .above j (omega arith)))
 
-  pub replaces-more : m .first + 1 < m .last → m .last ≤ n → n ≤ recordLimit → MovedDown ws (m .first + 1) (m .last) (min (n + 1) recordLimit) mid → commandIn next ≡ spliced (commandIn ws) m
+  pub replaces-more : m .first + 1 < m .last → m .last ≤ n → n ≤ recordLimit → MovedDown ws (m .first + 1) (m .last) (min (n + 1) recordLimit) mid
+      → commandIn next ≡ spliced (commandIn ws) m
   replaces-more more within few d =
       let end = changed-more (length (recordsIn (commandIn ws))) m (omega arith) in
       spliced-sealed ws mid next m opened counted (λ j h. d .below j (omega arith))

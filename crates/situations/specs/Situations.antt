@@ -1,4 +1,5 @@
--- The marked situations of 01 (the agreed scope, with request F-1 of 02; docs/RULES.md has their rules) with a star. Each starts with command 0 open, no records,
+-- The marked situations of 01 (the agreed scope, with request F-1 of 02; docs/RULES.md has their rules) with a star. Each starts with
+-- command 0 open, no records,
 -- and a window of 16,384 bytes.
 use Prim.Native.Nat.{ℕ, _*_, _%_}
 use mathlib.Core.Path.{_≡_}
@@ -38,7 +39,8 @@ opens = calls (record { call = begin 0; answer = replied []; bytes = []; records
 -- command 0 fetches a+n and is given its bytes, or is turned away
 unfoldable pub fetches : (a n fresh replayed : ℕ) → Expected (List Record) → Step
 unfolding bytesOf window dest
-fetches a n fresh replayed rs = calls (record { call = fetch 0 a n dest window; answer = replied (fresh ∷ replayed ∷ []); bytes = bytesOf a n; records = rs; window = unsaid })
+fetches a n fresh replayed rs =
+    calls (record { call = fetch 0 a n dest window; answer = replied (fresh ∷ replayed ∷ []); bytes = bytesOf a n; records = rs; window = unsaid })
 
 unfoldable pub turnedAway : (a n number : ℕ) → Expected (List Record) → Step
 unfolding window dest

@@ -14,7 +14,8 @@ use Rattle.octets.proofs.Lists.{both, and-left, and-right, all-at, all-set, all
 use Rattle.state.specs.declared.Record.{Record}
 use Rattle.state.specs.Limits.{commandLimit, recordLimit, heldLimit}
 use Rattle.state.specs.Records.{total}
-use Rattle.state.specs.State.{CommandState, State, noRecord, closed, open-with, freshState, commandOf, recordsIn, recordsOf, withCommand, ascending, isZero, commandHolds, holds, hasShape}
+use Rattle.state.specs.State.{CommandState, State, noRecord, closed, open-with, freshState, commandOf, recordsIn, recordsOf, withCommand, ascending}
+use Rattle.state.specs.State.{isZero, commandHolds, holds, hasShape}
 
 -- One command replaced
 
@@ -49,7 +50,15 @@ fresh-holds = all-replicate commandHolds commandLimit closed closed-holds
 pub open-with-holds : (rs : List Record) → length rs ≤ recordLimit → ascending 0 rs ≡ true → total rs ≤ heldLimit → commandHolds (open-with rs) ≡ true
 unfolding commandHolds
 open-with-holds rs few up small =
-    rw (records-open-with rs, le-leb _ _ few, up, le-leb _ _ small, drop-append-seam rs (replicate (recordLimit - length rs) noRecord), all-replicate isZero (recordLimit - length rs) noRecord refl)
+    let unused = recordLimit - length rs in
+    rw (
+      records-open-with rs,
+      le-leb _ _ few,
+      up,
+      le-leb _ _ small,
+      drop-append-seam rs (replicate unused noRecord),
+      all-replicate isZero unused noRecord refl,
+    )
 
 -- what a command that holds together keeps to
 pub record Kept (p : CommandState) : Type 0 where
@@ -125,7 +134,8 @@ zero-records [] h = refl
 zero-records (r ∷ rs) h = ap₂ _∷_ (zero-record r (and-left (isZero r) (all isZero rs) h)) (zero-records rs (and-right (isZero r) (all isZero rs) h))
 
 -- the entries of a command that holds together are its records, with the unused entries behind them
-pub open-with-padded : (p : CommandState) → Kept p → length (p .records) ≡ recordLimit → p .records ≡ recordsIn p ++ replicate (recordLimit - length (recordsIn p)) noRecord
+pub open-with-padded : (p : CommandState) → Kept p → length (p .records) ≡ recordLimit
+    → p .records ≡ recordsIn p ++ replicate (recordLimit - length (recordsIn p)) noRecord
 open-with-padded p K size =
     let front : length (recordsIn p) ≡ p .count = length-take-le (p .count) (p .records) (omega arith) in
     let back : length (drop (p .count) (p .records)) ≡ recordLimit - length (recordsIn p) = simp (length-drop, size, front) in
@@ -160,7 +170,8 @@ module _ (p : CommandState) where
   unfolding commandHolds
   records-fail h = go (leb (p .count) recordLimit) (ascending 0 (recordsIn p)) (leb (total (recordsIn p)) heldLimit) h
     where
-      go : (few up small : Bool) → (up && small) ≡ false → (few && up && small && all isZero (drop (p .count) (p .records)) && (p .opened || eqb (p .count) 0)) ≡ false
+      go : (few up small : Bool) → (up && small) ≡ false
+          → (few && up && small && all isZero (drop (p .count) (p .records)) && (p .opened || eqb (p .count) 0)) ≡ false
       go false up small h = refl
       go true false small h = refl
       go true true false h = refl

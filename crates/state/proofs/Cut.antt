@@ -136,7 +136,10 @@ module _ (rs : List Record) (up : ascending 0 rs ≡ true) (q : ℕ) (inside : q
   upto = ap (highest 0) (take-suc rs q noRecord inside) ∙ highest-append 0 (take q rs) r
 
   pub parted-past : Parted rs (suc q) (past r)
-  parted-past = record { before = omega (arith, upto, parted-start .before); behind = ascending-lower (past r) (suc (past r)) (drop (suc q) rs) (omega arith) (at-record .rest) }
+  parted-past = record {
+    before = omega (arith, upto, parted-start .before);
+    behind = ascending-lower (past r) (suc (past r)) (drop (suc q) rs) (omega arith) (at-record .rest);
+  }
 
   pub past-below : (x : ℕ) → Parted rs (suc q) x → past r ≤ x
   past-below x P = omega (arith, upto, P .before)
@@ -203,7 +206,9 @@ module _ (rs : List Record) (a n : ℕ) (m : Meeting) (F : Found rs a (suc n) m)
       let x = getD rs (m .first) noRecord .start in
       let start : x + 0 ≡ x = omega arith in
       let was : held rs x ≡ true = subst (λ (y : ℕ). held rs y ≡ true) start (record-held rs up (m .first) first 0 (at-record rs up (m .first) first .some)) in
-      let gone = behind-front x (parted-start rs up (m .first) first .before) ∙ held-low (m .low) (u ∷ drop (m .last) rs) x (ascending-from (m .low) at-union (omega arith)) under in
+      let behind = u ∷ drop (m .last) rs in
+      let free : held behind x ≡ false = held-low (m .low) behind x (ascending-from (m .low) at-union (omega arith)) under in
+      let gone = behind-front x (parted-start rs up (m .first) first .before) ∙ free in
       false≢true (sym gone ∙ stays x was))
 
   -- the last one ends in it: so is its last address
@@ -214,7 +219,8 @@ module _ (rs : List Record) (a n : ℕ) (m : Meeting) (F : Found rs a (suc n) m)
       let at : r .start + (x - r .start) ≡ x = omega arith in
       let near : x - r .start < r .len = omega (arith, at-record rs up k inside .some) in
       let was : held rs x ≡ true = subst (λ (y : ℕ). held rs y ≡ true) at (record-held rs up k inside (x - r .start) near) in
-      let behind : held (drop (m .last) rs) x ≡ false = ap (λ (j : ℕ). held (drop j rs) x) is ∙ held-low (past r) (drop (suc k) rs) x (parted-past rs up k inside .behind) (omega arith) in
+      let behind : held (drop (m .last) rs) x ≡ false
+      = ap (λ (j : ℕ). held (drop j rs) x) is ∙ held-low (past r) (drop (suc k) rs) x (parted-past rs up k inside .behind) (omega arith) in
       let gone = behind-front x (omega (arith, front-low, wide)) ∙ held-next u (drop (m .last) rs) x (above u x (omega (arith, wide))) ∙ behind in
       false≢true (sym gone ∙ stays x was))
 

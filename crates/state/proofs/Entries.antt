@@ -128,7 +128,8 @@ module _ (p : CommandState) (a n : ℕ) (R : Room p a (suc n)) (size : length (p
       count : length (joined rs a (suc n)) ≡ m .first + 1 + (length rs - m .last)
       count = sym (count-found rs a n (kept-command p (R .whole) .up))
 
-      at-each : (k : ℕ) → k < length (open-with (joined rs a (suc n)) .records) → getD (open-with (joined rs a (suc n)) .records) k noRecord ≡ getD (wanted p m) k noRecord
+      at-each : (k : ℕ) → k < length (open-with (joined rs a (suc n)) .records)
+          → getD (open-with (joined rs a (suc n)) .records) k noRecord ≡ getD (wanted p m) k noRecord
       at-each k h =
           padded (joined rs a (suc n)) (recordLimit - length (joined rs a (suc n))) k noRecord
           ∙ ap (λ (l : List Record). getD l k noRecord) (F .joins)
@@ -136,8 +137,10 @@ module _ (p : CommandState) (a n : ℕ) (R : Room p a (suc n)) (size : length (p
 
       entries : open-with (joined rs a (suc n)) .records ≡ written p m (changedUpTo (length rs) m)
       entries =
-          ext-getD noRecord (open-with (joined rs a (suc n)) .records) (wanted p m) (length-open-with (joined rs a (suc n)) (R .few) ∙ sym (wanted-size p m)) at-each
-          ∙ sym (back-written p m size (changedUpTo (length rs) m) (changed-within (length rs) m (omega (arith, F .most, length-take (p .count) (p .records)))) unchanged)
+          let sizes = length-open-with (joined rs a (suc n)) (R .few) ∙ sym (wanted-size p m) in
+          let within = changed-within (length rs) m (omega (arith, F .most, length-take (p .count) (p .records))) in
+          ext-getD noRecord (open-with (joined rs a (suc n)) .records) (wanted p m) sizes at-each
+          ∙ sym (back-written p m size (changedUpTo (length rs) m) within unchanged)
 
   pub place-found : m .below + min (a - m .low) windowLimit ≡ place (joined rs a (suc n)) a
   place-found =

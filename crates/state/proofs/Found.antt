@@ -102,7 +102,8 @@ module _ (a e : ℕ) (wide : a < e) where
           low = omega arith;
           high = omega arith;
           under = omega arith;
-          splits = merged-meets a e wide r rs (m .low) (m .high) j k ∙ S .splits ∙ ap (λ (f : ℕ). take f rs ++ between (s .low) (s .high) ∷ drop (S .upto) rs) none;
+          splits =
+              merged-meets a e wide r rs (m .low) (m .high) j k ∙ S .splits ∙ ap (λ (f : ℕ). take f rs ++ between (s .low) (s .high) ∷ drop (S .upto) rs) none;
         },
         refl,
       )

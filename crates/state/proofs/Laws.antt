@@ -110,7 +110,8 @@ packed-back l k lo [] up fits = refl
 packed-back l k lo (r ∷ rs) up fits =
     let u = ascends lo r rs up in
     let own = map-read (λ x. getD l (k + place (r ∷ rs) x) 0) l k (r .start) (r .len) (omega arith) (λ i h. ap (λ (j : ℕ). getD l j 0) (own-place u i h)) in
-    let moved = map-held (λ x. getD l (k + place (r ∷ rs) x) 0) (λ x. getD l (k + r .len + place rs x) 0) rs (λ x h. ap (λ (j : ℕ). getD l j 0) (later-place u x h)) in
+    let moved
+    = map-held (λ x. getD l (k + place (r ∷ rs) x) 0) (λ x. getD l (k + r .len + place rs x) 0) rs (λ x h. ap (λ (j : ℕ). getD l j 0) (later-place u x h)) in
     let rest = packed-back l (k + r .len) (suc (past r)) rs (u .rest) (omega arith) in
     map-append (λ x. getD l (k + place (r ∷ rs) x) 0) (span (r .start) (r .len)) (addresses rs)
     ∙ ap₂ _++_ own (moved ∙ rest ∙ ap (take (total rs)) (sym (drop-drop (r .len) k l)))

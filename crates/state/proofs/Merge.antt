@@ -10,7 +10,8 @@ use Rattle.octets.proofs.Lists.{both}
 use Rattle.state.specs.declared.Record.{Record}
 use Rattle.state.specs.Records.{past, inSpan, held, total, place, keep, earlier, later, lowest, highest}
 use Rattle.state.specs.State.{ascending}
-use Rattle.state.proofs.Cases.{Side, before, meets, after, side, Lies, over, within, beneath, lies, Ascends, ascends, ascending-cons, ascending-from, leb-same, inside, below, above}
+use Rattle.state.proofs.Cases.{Side, before, meets, after, side, Lies, over, within, beneath, lies, Ascends, ascends, ascending-cons, ascending-from}
+use Rattle.state.proofs.Cases.{leb-same, inside, below, above}
 use Rattle.state.proofs.Places.{place-all, place-none, place-low, place-max}
 
 -- the record from l to h
@@ -68,13 +69,16 @@ keep-none p lo (r ∷ rs) up no′ =
     rw (no′ r (u .from)) (keep-none p (suc (past r)) rs (u .rest) (λ t k. no′ t (omega arith)))
 
 -- an address is within the union of two that overlap exactly if it is in one of them
-within-hull : (r : Record) (l h x : ℕ) → r .start ≤ h → l ≤ past r → (leb (min (r .start) l) x && ltb x (max (past r) h)) ≡ (inSpan (r .start) (r .len) x || (leb l x && ltb x h))
+within-hull : (r : Record) (l h x : ℕ) → r .start ≤ h → l ≤ past r
+    → (leb (min (r .start) l) x && ltb x (max (past r) h)) ≡ (inSpan (r .start) (r .len) x || (leb l x && ltb x h))
 within-hull r l h x j k = go (lies x r)
   where
     go : Lies x r → (leb (min (r .start) l) x && ltb x (max (past r) h)) ≡ (inSpan (r .start) (r .len) x || (leb l x && ltb x h))
-    go (over t) = rw (above r x t, leb-same (min (r .start) l) x l x (omega arith) (omega arith), leb-same (suc x) (max (past r) h) (suc x) h (omega arith) (omega arith))
+    go (over t) =
+        rw (above r x t, leb-same (min (r .start) l) x l x (omega arith) (omega arith), leb-same (suc x) (max (past r) h) (suc x) h (omega arith) (omega arith))
     go (within s t) = rw (inside r x (omega arith) t) (both (le-leb (min (r .start) l) x (omega arith)) (lt-ltb x (max (past r) h) (omega arith)))
-    go (beneath t) = rw (below r x t, leb-same (min (r .start) l) x l x (omega arith) (omega arith), leb-same (suc x) (max (past r) h) (suc x) h (omega arith) (omega arith))
+    go (beneath t) =
+        rw (below r x t, leb-same (min (r .start) l) x l x (omega arith) (omega arith), leb-same (suc x) (max (past r) h) (suc x) h (omega arith) (omega arith))
 
 -- the union's length is what both have, less what they share
 overlap : (r : Record) (l h : ℕ) → r .start ≤ h → l ≤ past r → l ≤ h
@@ -99,7 +103,8 @@ module _ (a e : ℕ) (wide : a < e) where
   unfolding merged keep
   merged-before r rs l h k = rw (lt-ltb (past r) a k, lt-leb a (past r) k, and-false, le-ltb e (r .start) (omega arith))
 
-  pub merged-meets : (r : Record) (rs : List Record) (l h : ℕ) → r .start ≤ e → a ≤ past r → merged a e (r ∷ rs) l h ≡ merged a e rs (min (r .start) l) (max (past r) h)
+  pub merged-meets : (r : Record) (rs : List Record) (l h : ℕ) → r .start ≤ e → a ≤ past r
+      → merged a e (r ∷ rs) l h ≡ merged a e rs (min (r .start) l) (max (past r) h)
   unfolding merged keep lowest highest
   merged-meets r rs l h j k = rw (le-ltb (past r) a k, le-leb (r .start) e j, le-leb a (past r) k, le-ltb e (r .start) j, lowest-min, highest-max)
 
@@ -125,15 +130,19 @@ module _ (a e : ℕ) (wide : a < e) where
   held-merged (r ∷ rs) l h x low high = go (side a e r) (held-merged rs l h x low high) (held-merged rs (min (r .start) l) (max (past r) h) x)
     where
       go : Side a e r → held (merged a e rs l h) x ≡ (held rs x || (leb l x && ltb x h))
-          → (min (r .start) l ≤ a → e ≤ max (past r) h → held (merged a e rs (min (r .start) l) (max (past r) h)) x ≡ (held rs x || (leb (min (r .start) l) x && ltb x (max (past r) h))))
+          → (min (r .start) l ≤ a → e ≤ max (past r) h
+          → held (merged a e rs (min (r .start) l) (max (past r) h)) x ≡ (held rs x || (leb (min (r .start) l) x && ltb x (max (past r) h))))
           → held (merged a e (r ∷ rs) l h) x ≡ (held (r ∷ rs) x || (leb l x && ltb x h))
       go (before k) same wider = rw (merged-before, or-assoc, same)
-      go (meets j k) same wider = rw (merged-meets r rs l h j k, wider (omega arith) (omega arith), within-hull r l h x (omega arith) (omega arith), or-assoc) (or-left (held rs x) (inSpan (r .start) (r .len) x) (leb l x && ltb x h))
+      go (meets j k) same wider =
+          rw (merged-meets r rs l h j k, wider (omega arith) (omega arith), within-hull r l h x (omega arith) (omega arith), or-assoc)
+          (or-left (held rs x) (inSpan (r .start) (r .len) x) (leb l x && ltb x h))
       go (after k) same wider = unfold merged in rw (merged-after r rs l h k, held-middle, or-assoc, same)
 
   pub ascending-merged : (floor lo : ℕ) (rs : List Record) (l h : ℕ) → ascending lo rs ≡ true → Reach a e lo l h → floor ≤ lo → floor ≤ l → h ≤ 65536
       → ascending floor (merged a e rs l h) ≡ true
-  ascending-merged floor lo [] l h up reach under low fits = rw merged-nil (ascending-cons (record { from = omega arith; some = omega arith; fits = omega arith; rest = unfold ascending in refl }))
+  ascending-merged floor lo [] l h up reach under low fits =
+      rw merged-nil (ascending-cons (record { from = omega arith; some = omega arith; fits = omega arith; rest = unfold ascending in refl }))
   ascending-merged floor lo (r ∷ rs) l h up reach under low fits =
       let u = ascends lo r rs up in
       go u (side a e r) (λ f l′ h′. ascending-merged f (suc (past r)) rs l′ h′ (u .rest))
@@ -141,13 +150,17 @@ module _ (a e : ℕ) (wide : a < e) where
       go : Ascends lo r rs → Side a e r
           → ((f l′ h′ : ℕ) → Reach a e (suc (past r)) l′ h′ → f ≤ suc (past r) → f ≤ l′ → h′ ≤ 65536 → ascending f (merged a e rs l′ h′) ≡ true)
           → ascending floor (merged a e (r ∷ rs) l h) ≡ true
-      go u (before k) ih = rw merged-before (ascending-cons (record { from = omega arith; some = u .some; fits = u .fits; rest = ih (suc (past r)) l h (omega arith) (omega arith) (omega arith) fits }))
-      go u (meets j k) ih = rw (merged-meets r rs l h j k) (ih floor (min (r .start) l) (max (past r) h) (omega arith) (omega arith) (omega arith) (omega arith))
+      go u (before k) ih =
+          let behind = ih (suc (past r)) l h (omega arith) (omega arith) (omega arith) fits in
+          rw merged-before (ascending-cons (record { from = omega arith; some = u .some; fits = u .fits; rest = behind }))
+      go u (meets j k) ih =
+          rw (merged-meets r rs l h j k) (ih floor (min (r .start) l) (max (past r) h) (omega arith) (omega arith) (omega arith) (omega arith))
       go u (after k) ih =
           rw (merged-past (r .start) (r ∷ rs) l h (ascending-from _ u (omega arith)) k)
           (ascending-cons (record { from = low; some = omega arith; fits = omega arith; rest = ascending-from _ u (omega arith) }))
 
-  pub total-merged : (lo : ℕ) (rs : List Record) (l h : ℕ) → ascending lo rs ≡ true → Reach a e lo l h → total (merged a e rs l h) + place rs h + l ≡ total rs + h + place rs l
+  pub total-merged : (lo : ℕ) (rs : List Record) (l h : ℕ) → ascending lo rs ≡ true → Reach a e lo l h
+      → total (merged a e rs l h) + place rs h + l ≡ total rs + h + place rs l
   unfolding total place
   total-merged lo [] l h up reach = rw merged-nil (omega arith)
   total-merged lo (r ∷ rs) l h up reach =

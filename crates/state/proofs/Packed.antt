@@ -17,7 +17,8 @@ use Rattle.state.proofs.Laws.{length-addresses, map-held, packed-back, 
 -- the bytes of the joined records: before the union, within it, and behind it
 pub packed-replaced :
     (f : ℕ → ℕ) (rs : List Record) (m : Meeting)
-    → map f (addresses (replaced rs m)) ≡ map f (addresses (take (m .first) rs)) ++ (map f (span (m .low) (m .high - m .low)) ++ map f (addresses (drop (m .last) rs)))
+    → map f (addresses (replaced rs m))
+    ≡ map f (addresses (take (m .first) rs)) ++ (map f (span (m .low) (m .high - m .low)) ++ map f (addresses (drop (m .last) rs)))
 unfolding addresses
 packed-replaced f rs m =
     let front = addresses (take (m .first) rs) in
@@ -46,7 +47,8 @@ module _ (f : ℕ → ℕ) (l : List ℕ) (k : ℕ) (rs : List Record) (up : asc
 
     halves : map f (addresses front) ++ map f (addresses back) ≡ take (total front) (drop k l) ++ take (total back) (drop (total front) (drop k l))
     halves =
-        sym (map-append f (addresses front) (addresses back)) ∙ ap (map f) (sym (addresses-append front back)) ∙ ap (λ (t : List Record). map f (addresses t)) (take-append-drop i rs)
+        sym (map-append f (addresses front) (addresses back)) ∙ ap (map f) (sym (addresses-append front back))
+        ∙ ap (λ (t : List Record). map f (addresses t)) (take-append-drop i rs)
         ∙ all-packed ∙ ap (λ (t : ℕ). take t (drop k l)) totals ∙ take-add (total front) (total back) (drop k l)
 
     part-size : length (take (total front) (drop k l)) ≡ total front

@@ -53,7 +53,8 @@ place-suc lo (r ∷ rs) x up = let u = ascends lo r rs up in go u (place-suc (su
     go : Ascends lo r rs → place rs (suc x) ≡ place rs x + cond (held rs x) 1 0 → Lies x r
         → place (r ∷ rs) (suc x) ≡ place (r ∷ rs) x + cond (held (r ∷ rs) x) 1 0
     go u ih (over h) = rw (above r x h) (omega arith)
-    go u ih (within h k) = rw (inside r x (omega arith) k) (omega (arith, place-low _ rs (suc x) (u .rest) (omega arith), place-low _ rs x (u .rest) (omega arith)))
+    go u ih (within h k) =
+        rw (inside r x (omega arith) k) (omega (arith, place-low _ rs (suc x) (u .rest) (omega arith), place-low _ rs x (u .rest) (omega arith)))
     go u ih (beneath h) = rw (below r x h) (omega arith)
 
 -- so the fresh addresses and the held ones of a span make up the span
@@ -131,7 +132,8 @@ place-middle lo (r ∷ xs) u ys x up h k =
     omega (arith, place-all r x (omega arith), place-middle (suc (past r)) xs u ys x (v .rest) h k)
 
 -- the places of held addresses side by side are side by side
-pub place-along : (lo : ℕ) (rs : List Record) (a n : ℕ) → ascending lo rs ≡ true → ((i : ℕ) → i < n → held rs (a + i) ≡ true) → place rs (a + n) ≡ place rs a + n
+pub place-along : (lo : ℕ) (rs : List Record) (a n : ℕ) → ascending lo rs ≡ true → ((i : ℕ) → i < n → held rs (a + i) ≡ true)
+    → place rs (a + n) ≡ place rs a + n
 place-along lo rs a zero up h = ap (place rs) (add-zero a) ∙ sym (add-zero (place rs a))
 place-along lo rs a (suc n) up h =
     let last : _≡_ {A = ℕ} (cond (held rs (a + n)) 1 0) 1 = rw (h n (omega arith)) in

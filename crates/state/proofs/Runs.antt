@@ -12,7 +12,8 @@ use Rattle.state.specs.Records.{past, inSpan, held, shares, touches, mee
 use Rattle.state.specs.State.{ascending}
 use Rattle.state.specs.Runs.{inFront, runsFrom, runs}
 use Rattle.state.specs.Claims.{MeetsWords, AreRuns, RunsAreRuns, RecordsRuns}
-use Rattle.state.proofs.Cases.{Side, before, meets as met, after, side, Ascends, ascends, ascending-cons, ascending-from, ascending-lower, inside, below, above}
+use Rattle.state.proofs.Cases.{Side, before, meets as met, after, side, Ascends, ascends, ascending-cons, ascending-from, ascending-lower, inside, below}
+use Rattle.state.proofs.Cases.{above}
 use Rattle.state.proofs.Places.{held-low}
 
 pub meets-words : MeetsWords

@@ -48,7 +48,8 @@ module _ (p : CommandState) (m : Meeting) where
     -- where those from k on stay as they are, all are written
     pub back-written : ((i : ℕ) → k ≤ i → i < recordLimit → entryAfter (p .records) m i ≡ getD (p .records) i noRecord) → written p m k ≡ wanted p m
     back-written same =
-        written-is k ∙ ap (λ (l : List Record). take k (wanted p m) ++ l) (ext-getD noRecord (drop k (p .records)) (drop k (wanted p m)) sizes alike) ∙ take-append-drop k (wanted p m)
+        written-is k ∙ ap (λ (l : List Record). take k (wanted p m) ++ l) (ext-getD noRecord (drop k (p .records)) (drop k (wanted p m)) sizes alike)
+        ∙ take-append-drop k (wanted p m)
       where
         sizes : length (drop k (p .records)) ≡ length (drop k (wanted p m))
         sizes = simp length-drop (omega (arith, wanted-size, size))
@@ -56,10 +57,12 @@ module _ (p : CommandState) (m : Meeting) where
         alike : (i : ℕ) → i < length (drop k (p .records)) → getD (drop k (p .records)) i noRecord ≡ getD (drop k (wanted p m)) i noRecord
         alike i h =
             let near : k + i < recordLimit = omega (arith, length-drop k (p .records)) in
-            getD-drop k (p .records) i noRecord ∙ sym (same (k + i) (omega arith) near) ∙ sym (wanted-at (k + i) near) ∙ sym (getD-drop k (wanted p m) i noRecord)
+            getD-drop k (p .records) i noRecord ∙ sym (same (k + i) (omega arith) near) ∙ sym (wanted-at (k + i) near)
+            ∙ sym (getD-drop k (wanted p m) i noRecord)
 
   pub is-spliced :
-      (opened : Bool) (count : ℕ) (entries : List Record) → opened ≡ p .opened → count ≡ m .first + 1 + (length (recordsIn p) - m .last) → entries ≡ written p m (changedUpTo (length (recordsIn p)) m)
+      (opened : Bool) (count : ℕ) (entries : List Record) → opened ≡ p .opened → count ≡ m .first + 1 + (length (recordsIn p) - m .last)
+      → entries ≡ written p m (changedUpTo (length (recordsIn p)) m)
       → _≡_ {A = CommandState} (record { opened = opened; count = count; records = entries }) (spliced p m)
   unfolding spliced
   is-spliced opened count entries a b c = λ i. record { opened = a i; count = b i; records = (c ∙ written-is (changedUpTo (length (recordsIn p)) m)) i }

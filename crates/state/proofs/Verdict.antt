@@ -62,9 +62,11 @@ verdict-lowest floor (c ∷ cs) reply up =
 pub never-given : (k : ℕ) (cs : List Check) (ns : List ℕ) → all (λ c. not (eqb (c .number) k && c .applies)) cs ≡ true → verdict cs (replied ns) ≢ refused k
 unfolding verdict all
 never-given k [] ns h = λ e. let z : _≡_ {A = ℕ} 0 1 = cc in omega arith
-never-given k (c ∷ cs) ns h = go (c .applies) refl (and-left (not (eqb (c .number) k && c .applies)) _ h) (never-given k cs ns (and-right (not (eqb (c .number) k && c .applies)) _ h))
+never-given k (c ∷ cs) ns h =
+    go (c .applies) refl (and-left (not (eqb (c .number) k && c .applies)) _ h) (never-given k cs ns (and-right (not (eqb (c .number) k && c .applies)) _ h))
   where
-    go : (b : Bool) → c .applies ≡ b → not (eqb (c .number) k && c .applies) ≡ true → verdict cs (replied ns) ≢ refused k → verdict (c ∷ cs) (replied ns) ≢ refused k
+    go : (b : Bool) → c .applies ≡ b → not (eqb (c .number) k && c .applies) ≡ true → verdict cs (replied ns) ≢ refused k
+        → verdict (c ∷ cs) (replied ns) ≢ refused k
     go true a t ih e =
         let given-this = rw a at e in
         let is : c .number ≡ k = cc in

@@ -31,7 +31,8 @@ no-record p i h = drop-of-length-le (recordsIn p) {i = i} h
 
 -- The same for a test on the commands of a state.
 
-module _ (test : CommandState → Bool) (commands : List CommandState) (c : ℕ) (d : CommandState) (h : c < length commands) {z : Bool} (e : all test (drop c commands) ≡ z) where
+module _ (test : CommandState → Bool) (commands : List CommandState) (c : ℕ) (d : CommandState) (h : c < length commands)
+    {z : Bool} (e : all test (drop c commands) ≡ z) where
   commands-left : (test (getD commands c d) && all test (drop (c + 1) commands)) ≡ z
   unfolding all
   commands-left = sym (ap (all test) (next commands c d h)) ∙ e

@@ -6,7 +6,8 @@ use mathlib.Core.Bool.{not}
 use lib.Dec.{ltb, leb, eqb}
 use lib.ListN.{length}
 use Rattle.state.specs.declared.Record.{Record}
-use Rattle.state.specs.declared.refusal.Refusal.the-variants.{LengthTooLong, CommandTooHigh, WindowTooLong, StoreWrongSize, OutsideWindow, BufferTooShort, StateBroken, CommandNotOpen, CommandAlreadyOpen, TooManyBytes, TooManyRecords, NoSuchRecord}
+use Rattle.state.specs.declared.refusal.Refusal.the-variants.{LengthTooLong, CommandTooHigh, WindowTooLong, StoreWrongSize, OutsideWindow, BufferTooShort}
+use Rattle.state.specs.declared.refusal.Refusal.the-variants.{StateBroken, CommandNotOpen, CommandAlreadyOpen, TooManyBytes, TooManyRecords, NoSuchRecord}
 use Rattle.state.specs.Limits.{commandLimit, recordLimit, heldLimit, transferLimit, windowLimit, storeSize}
 use Rattle.state.specs.Records.{total, fresh, joined}
 use Rattle.state.specs.State.{State, holds, isOpen}

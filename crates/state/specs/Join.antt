@@ -19,7 +19,8 @@ abbrev pub moved : Record → Meeting → Meeting
 moved r m = record { first = m .first + 1; last = m .last + 1; low = m .low; high = m .high; below = m .below + r .len; held = m .held }
 
 abbrev pub widened : Record → Meeting → Meeting
-widened r m = record { first = m .first; last = m .last + 1; low = min (r .start) (m .low); high = max (past r) (m .high); below = m .below; held = m .held + r .len }
+widened r m =
+    record { first = m .first; last = m .last + 1; low = min (r .start) (m .low); high = max (past r) (m .high); below = m .below; held = m .held + r .len }
 
 -- a record that starts at or before the span's end is one of the two
 unfoldable pub passed : ℕ → Record → Meeting → Meeting

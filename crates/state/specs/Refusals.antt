@@ -1,11 +1,14 @@
--- The number in 01 (the agreed scope; docs/RULES.md has its rules) of each refusal, and its reason in words ("Turned away because of the input", "Turned away because of the state").
+-- The number in 01 (the agreed scope; docs/RULES.md has its rules) of each refusal, and its reason in words ("Turned away because of the
+-- input", "Turned away because of the state").
 use Prim.Native.Nat.{ℕ}
 use Prim.Native.String.{String}
 use mathlib.Core.List.{List, _++_}
 use lib.ListN.{take, replicate}
 use Rattle.octets.specs.Text.{ascii}
 use Rattle.state.specs.declared.refusal.Refusal.{Refusal}
-use Rattle.state.specs.declared.refusal.Refusal.the-variants.{FrameTooShort, UnknownKind, FieldNotZero, LengthTooLong, DataMismatch, CommandTooHigh, WindowTooLong, StoreWrongSize, OutsideWindow, BufferTooShort, AddressTooHigh, StateBroken, CommandNotOpen, CommandAlreadyOpen, TooManyBytes, TooManyRecords, NoSuchRecord}
+use Rattle.state.specs.declared.refusal.Refusal.the-variants.{FrameTooShort, UnknownKind, FieldNotZero, LengthTooLong, DataMismatch, CommandTooHigh}
+use Rattle.state.specs.declared.refusal.Refusal.the-variants.{WindowTooLong, StoreWrongSize, OutsideWindow, BufferTooShort, AddressTooHigh, StateBroken}
+use Rattle.state.specs.declared.refusal.Refusal.the-variants.{CommandNotOpen, CommandAlreadyOpen, TooManyBytes, TooManyRecords, NoSuchRecord}
 
 abbrev pub number : Refusal → ℕ
 number FrameTooShort = 1

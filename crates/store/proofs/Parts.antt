@@ -52,7 +52,8 @@ module _ (rs : List Record) (m : Meeting) (fresh c : ℕ) (store : List ℕ) (ba
       take (partStart c) store ++ (repacked rs m own base source ++ drop heldLimit (drop (partStart c) store))
       ≡ packed store c (replaced rs m) (sees rs (λ k. partStart c + k) store (from base source))
   repacked-store =
-      let size : length bytes ≡ total rs + fresh = length-map (addresses (replaced rs m)) (seesIn rs own base source) ∙ length-addresses (replaced rs m) ∙ total-replaced in
+      let size : length bytes ≡ total rs + fresh
+      = length-map (addresses (replaced rs m)) (seesIn rs own base source) ∙ length-addresses (replaced rs m) ∙ total-replaced in
       let room′ : length own ≡ heldLimit = simp (length-take, length-drop) (omega arith) in
       overwrite-lent store bytes (partStart c) heldLimit (omega arith)
       ∙ ap (packed store c (replaced rs m)) (sees-part rs c store (from base source) (C .up) (omega arith))

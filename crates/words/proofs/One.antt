@@ -28,7 +28,8 @@ module _ (xs ys : List ℕ) (same : commandIn xs ≡ commandIn ys) where
   heads : getD xs 0 0 ≡ getD ys 0 0
   heads = go (ltb 0 (getD xs 0 0)) refl (ltb 0 (getD ys 0 0)) refl (ap (λ (p : CommandState). p .opened) same) (ap (λ (p : CommandState). p .count) same)
     where
-      go : (a : Bool) → ltb 0 (getD xs 0 0) ≡ a → (b : Bool) → ltb 0 (getD ys 0 0) ≡ b → ltb 0 (getD xs 0 0) ≡ ltb 0 (getD ys 0 0) → getD xs 0 0 - 1 ≡ getD ys 0 0 - 1 → getD xs 0 0 ≡ getD ys 0 0
+      go : (a : Bool) → ltb 0 (getD xs 0 0) ≡ a → (b : Bool) → ltb 0 (getD ys 0 0) ≡ b → ltb 0 (getD xs 0 0) ≡ ltb 0 (getD ys 0 0)
+          → getD xs 0 0 - 1 ≡ getD ys 0 0 - 1 → getD xs 0 0 ≡ getD ys 0 0
       go true e true f o n = omega (arith, ltb-true 0 (getD xs 0 0) e, ltb-true 0 (getD ys 0 0) f)
       go false e false f o n = omega (arith, ltb-false 0 (getD xs 0 0) e, ltb-false 0 (getD ys 0 0) f)
       go true e false f o n = absurd (false≢true (sym f ∙ sym o ∙ e))
@@ -61,5 +62,6 @@ state-one a b sa sb same = ext-getD 0 a b (sa ∙ sym sb) alike
         let small : r < 129 = mod-lt i (omega arith) in
         let few : c < commandLimit = omega arith in
         let place : 129 * c + r ≡ i = omega arith in
-        let own : commandIn (wordsOf a c) ≡ commandIn (wordsOf b c) = sym (command-at a c closed few) ∙ ap (λ (s : State). getD (s .commands) c closed) same ∙ command-at b c closed few in
+        let own : commandIn (wordsOf a c) ≡ commandIn (wordsOf b c)
+        = sym (command-at a c closed few) ∙ ap (λ (s : State). getD (s .commands) c closed) same ∙ command-at b c closed few in
         subst (λ (j : ℕ). getD a j 0 ≡ getD b j 0) place (sym (word-at a c r small) ∙ word (wordsOf a c) (wordsOf b c) own r small ∙ word-at b c r small)

@@ -71,7 +71,8 @@ module _ (words ws : List ℕ) (c : ℕ) (whole : length words ≡ stateWords) (
           go : (b : Bool) → eqb d c ≡ b → getD (commandsIn next) d closed ≡ getD (set (commandsIn words) c (commandIn ws)) d closed
           go true e =
               let same : d ≡ c = eqb-true d c e in
-              rw same (command-at next c closed h ∙ ap commandIn words-same ∙ sym (getD-set-same (commandsIn words) c (commandIn ws) closed (omega (arith, commands-size words))))
+              let put = getD-set-same (commandsIn words) c (commandIn ws) closed (omega (arith, commands-size words)) in
+              rw same (command-at next c closed h ∙ ap commandIn words-same ∙ sym put)
           go false e =
               let other : d ≢ c = eqb-false d c e in
               command-at next d closed few ∙ ap commandIn (words-other d few other)
@@ -94,7 +95,8 @@ pub shape-of : (words : List ℕ) → hasShape (stateOf words) ≡ true
 unfolding stateOf
 shape-of words =
     both (eq-eqb (length (commandsIn words)) commandLimit (commands-size words))
-    (all-map (λ c. commandIn (wordsOf words c)) (λ p. eqb (length (p .records)) recordLimit) (span 0 commandLimit) (λ c. eq-eqb _ _ (entries-size (wordsOf words c))))
+    (all-map (λ c. commandIn (wordsOf words c)) (λ p. eqb (length (p .records)) recordLimit) (span 0 commandLimit)
+    (λ c. eq-eqb _ _ (entries-size (wordsOf words c))))
 
 -- A command's words as code lends them, and the state's words when others come back in their place.
 abbrev pub lent : List ℕ → ℕ → List ℕ

@@ -30,14 +30,17 @@ records-hold-requires c κs =
     (omega arith, omega (arith, count), omega arith, omega arith)
 
 returns-3 : tie.Need-returns-3
-returns-3 c = sym (records-fail (commandIn (now (c .before .before .before .before .before .before .before .args .words))) (sym (c .before .records-hold .ensures) ∙ not-true _ (c .if3 .taken)))
+returns-3 c =
+    let ws = now (c .before .before .before .before .before .before .before .args .words) in
+    sym (records-fail (commandIn ws) (sym (c .before .records-hold .ensures) ∙ not-true _ (c .if3 .taken)))
 
 returns-4 : tie.Need-returns-4
 returns-4 c =
     let ws = now (c .before .before .before .before .before .before .before .before .args .words) in
     let count : c .before .before .before .before .before .wide .result - 1 ≡ getD ws 0 0 - 1 = omega arith in
     let kept = sym (c .before .before .records-hold .ensures) ∙ not-false _ (c .before .if3 .left) in
-    c .unused-zero2 .ensures ∙ ap (λ (k : ℕ). all isZero (drop k (entriesIn ws))) count ∙ sym (unused-decide (commandIn ws) (lt-ltb 0 (getD ws 0 0) (omega arith)) (omega arith) kept)
+    c .unused-zero2 .ensures ∙ ap (λ (k : ℕ). all isZero (drop k (entriesIn ws))) count
+    ∙ sym (unused-decide (commandIn ws) (lt-ltb 0 (getD ws 0 0) (omega arith)) (omega arith) kept)
 
 pub command-holds-spec : {M : Type 1} → statement M
 command-holds-spec =

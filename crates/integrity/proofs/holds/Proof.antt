@@ -34,7 +34,8 @@ returns c =
     let words = now (l .before .before .args .state) in
     let i = l .loop .c in
     let size : 129 * i + 129 - 129 * i ≡ 129 = omega arith in
-    let own : commandHolds (getD (commandsIn words) i closed) ≡ false = ap commandHolds (command-at words i closed (omega arith)) ∙ rw size at (sym (c .before .command-holds .ensures)) ∙ not-true _ (c .if1 .taken) in
+    let own : commandHolds (getD (commandsIn words) i closed) ≡ false
+    = ap commandHolds (command-at words i closed (omega arith)) ∙ rw size at (sym (c .before .command-holds .ensures)) ∙ not-true _ (c .if1 .taken) in
     command-fails commandHolds (commandsIn words) i closed (omega (arith, commands-size words)) (l .loop .inv .1) own
 
 loop-again : tie.Need-loop-again Inv-loop μ-loop
@@ -43,7 +44,8 @@ loop-again c =
     let words = now (l .before .before .args .state) in
     let i = l .loop .c in
     let size : 129 * i + 129 - 129 * i ≡ 129 = omega arith in
-    let own : commandHolds (getD (commandsIn words) i closed) ≡ true = ap commandHolds (command-at words i closed (omega arith)) ∙ rw size at (sym (c .before .command-holds .ensures)) ∙ not-false _ (c .if1 .left) in
+    let own : commandHolds (getD (commandsIn words) i closed) ≡ true
+    = ap commandHolds (command-at words i closed (omega arith)) ∙ rw size at (sym (c .before .command-holds .ensures)) ∙ not-false _ (c .if1 .left) in
     (omega arith, command-next commandHolds (commandsIn words) i closed (omega (arith, commands-size words)) (l .loop .inv .1) own)
 
 returns-2 : tie.Need-returns-2 Inv-loop μ-loop

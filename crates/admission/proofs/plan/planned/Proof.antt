@@ -69,7 +69,9 @@ module _ (c : tie.After-minus3) where
   room = omega (arith, bytes h)
 
   number : m h .first + 1 + c .minus3 .result ≡ j h .command .count
-  number = ap (λ (k : ℕ). m h .first + 1 + k) (c .minus3 .ensures ∙ ap (λ (k : ℕ). k - m h .last) (c .before .before .used .ensures .0)) ∙ count-is (p h) (a h) (n h) (m h) (met h)
+  number =
+      ap (λ (k : ℕ). m h .first + 1 + k) (c .minus3 .ensures ∙ ap (λ (k : ℕ). k - m h .last) (c .before .before .used .ensures .0))
+      ∙ count-is (p h) (a h) (n h) (m h) (met h)
 
 returns-2 : tie.Need-returns-2
 returns-2 c = record { bytes = room (c .before); many = omega (arith, number (c .before)) }

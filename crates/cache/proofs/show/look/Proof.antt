@@ -31,7 +31,8 @@ is-open : (c : tie.Else3) → isOpen (stateOf (now (c .before .before .before .b
 is-open c = sym (c .before .is-open .ensures) ∙ not-false _ (c .if3 .left)
 
 -- the command that is lent is the state's
-own : (c : tie.Else3) → commandIn (lent (now (c .before .before .before .before .before .before .args .state)) (c .before .before .before .before .before .before .args .command))
+own : (c : tie.Else3)
+    → commandIn (lent (now (c .before .before .before .before .before .before .args .state)) (c .before .before .before .before .before .before .args .command))
     ≡ commandOf (stateOf (now (c .before .before .before .before .before .before .args .state))) (c .before .before .before .before .before .before .args .command)
 own c =
     let start = c .before .before .before .before .before .before in
@@ -72,7 +73,8 @@ returns-5 c =
     let many = c .before .before .used .ensures .0 in
     let below : i < p .count = omega (arith, length-take (p .count) (p .records)) in
     let found = c .entry .ensures ∙ sym (getD-take (p .count) (p .records) i noRecord below ∙ entry-at words i (omega arith)) ∙ ap (λ (q : CommandState). getD (recordsIn q) i noRecord) (own opened) in
-    let more : i < length (recordsOf (stateOf (now (start .args .state))) (start .args .command)) = omega (arith, ap (λ (q : CommandState). length (recordsIn q)) (own opened)) in
+    let more : i < length (recordsOf (stateOf (now (start .args .state))) (start .args .command))
+    = omega (arith, ap (λ (q : CommandState). length (recordsIn q)) (own opened)) in
     rw (command-low (whole .before .before), state-whole whole, is-open opened, lt-leb _ i more) (ap (λ (r : Record). replied (r .start ∷ r .len ∷ [])) found)
 
 pub look-spec : {M : Type 1} → statement M

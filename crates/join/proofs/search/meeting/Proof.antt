@@ -16,7 +16,8 @@ use Rattle.join.proofs.search.meeting.Statement.{statement}
 use Rattle.join.proofs.search.meeting.Tie as tie
 
 abbrev Inv-loop : tie.InvT-loop
-Inv-loop words address end n m₀ i₀ m i = (searched address end (drop i (recordsIn (commandIn words))) m ≡ meeting (recordsIn (commandIn words)) address end) × Counted m i × (m .last ≡ i) × (i ≤ n)
+Inv-loop words address end n m₀ i₀ m i =
+    (searched address end (drop i (recordsIn (commandIn words))) m ≡ meeting (recordsIn (commandIn words)) address end) × Counted m i × (m .last ≡ i) × (i ≤ n)
 
 abbrev μ-loop : tie.MeasureT-loop
 μ-loop words address end n m₀ i₀ m i = n - i
@@ -37,7 +38,8 @@ returns c =
     let rest = drop (i + 1) (recordsIn p) in
     let is : c .before .before .entry .result ≡ r = c .before .before .entry .ensures ∙ sym (entry-at ws i (omega arith)) in
     let left = at-next p i (omega arith) (λ rs. searched (e .args .address) (e .args .end) rs m) (l .loop .inv .0) in
-    (sym (search-stops (e .args .address) (e .args .end) r rest m (omega (arith, ap (λ (r : Record). r .start) is))) ∙ left, record { first = l .loop .inv .1 .first; last = omega arith; below = omega arith; held = omega arith })
+    let stops = search-stops (e .args .address) (e .args .end) r rest m (omega (arith, ap (λ (r : Record). r .start) is)) in
+    (sym stops ∙ left, record { first = l .loop .inv .1 .first; last = omega arith; below = omega arith; held = omega arith })
 
 loop-again : tie.Need-loop-again Inv-loop μ-loop
 loop-again c =
@@ -52,7 +54,8 @@ loop-again c =
     let rest = drop (i + 1) (recordsIn p) in
     let is : c .before .before .before .entry .result ≡ r = c .before .before .before .entry .ensures ∙ sym (entry-at ws i (omega arith)) in
     let left = at-next p i (omega arith) (λ rs. searched a (e .args .end) rs m) (l .loop .inv .0) in (
-      ap (searched a (e .args .end) rest) (c .pass .ensures .is ∙ ap (λ (r : Record). passed a r m) is) ∙ sym (search-on a (e .args .end) r rest m (omega (arith, ap (λ (r : Record). r .start) is))) ∙ left,
+      ap (searched a (e .args .end) rest) (c .pass .ensures .is ∙ ap (λ (r : Record). passed a r m) is)
+          ∙ sym (search-on a (e .args .end) r rest m (omega (arith, ap (λ (r : Record). r .start) is))) ∙ left,
       record { first = c .pass .ensures .order (l .loop .inv .1 .first); last = omega arith; below = omega arith; held = omega arith },
       omega arith,
       omega arith,
@@ -63,8 +66,9 @@ returns-2 c =
     let l = c .before in
     let e = l .before .before .before in
     let p = commandIn (now (e .args .words)) in
+    let none = no-record p (l .loop .i) (omega arith) in
     let m = l .loop .m in (
-      sym (sym (l .loop .inv .0) ∙ ap (λ rs. searched (e .args .address) (e .args .end) rs m) (no-record p (l .loop .i) (omega arith)) ∙ unfold searched in refl),
+      sym (sym (l .loop .inv .0) ∙ ap (λ rs. searched (e .args .address) (e .args .end) rs m) none ∙ unfold searched in refl),
       record { first = l .loop .inv .1 .first; last = omega arith; below = omega arith; held = omega arith },
     )
 

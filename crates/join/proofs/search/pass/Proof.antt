@@ -10,9 +10,10 @@ use Rattle.join.proofs.search.pass.Tie as tie
 
 returns : tie.Need-returns
 returns c =
-    let m = c .before .before .before .before .before .before .args .m in
+    let a = c .before .before .before .before .before .before .args in
+    let m = a .m in
     let len = c .before .before .before .before .wide2 .ensures .0 in
-    let e = passed-before (c .before .before .before .before .before .before .args .address) (c .before .before .before .before .before .before .args .r) m (omega arith) in
+    let e = passed-before (a .address) (a .r) m (omega arith) in
     record {
       is = sym (e ∙ (λ i. record { first = m .first + 1; last = m .last + 1; low = m .low; high = m .high; below = m .below + sym len i; held = m .held }));
       first = omega arith;
@@ -24,13 +25,14 @@ returns c =
 
 returns-2 : tie.Need-returns-2
 returns-2 c =
-    let m = c .before .before .before .before .before .before .before .args .m in
-    let r = c .before .before .before .before .before .before .before .args .r in
+    let a = c .before .before .before .before .before .before .before .args in
+    let m = a .m in
+    let r = a .r in
     let start = c .before .before .before .before .before .before .wide .ensures .0 in
     let len = c .before .before .before .before .before .wide2 .ensures .0 in
     let low : min (r .start) (m .low) ≡ c .before .before .lesser .result = sym (c .before .before .lesser .ensures ∙ ap (λ (k : ℕ). min k (m .low)) start) in
     let high : max (past r) (m .high) ≡ c .before .greater .result = sym (c .before .greater .ensures ∙ ap₂ (λ (k l : ℕ). max (k + l) (m .high)) start len) in
-    let e = passed-meets (c .before .before .before .before .before .before .before .args .address) r m (omega arith) in
+    let e = passed-meets (a .address) r m (omega arith) in
     record {
       is = sym (e ∙ (λ i. record { first = m .first; last = m .last + 1; low = low i; high = high i; below = m .below; held = m .held + sym len i }));
       first = omega arith;

@@ -9,7 +9,8 @@ use Rattle.join.proofs.splice.seal.Tie as tie
 returns : tie.Need-returns
 returns c =
     let e = c .before .before .before .before .before .before in
-    let laid = sealed (now (e .args .words)) (e .args .m) (e .args .count) (c .before .before .before .union .result) (omega arith) (omega arith) (c .before .before .before .union .ensures) in
+    let made = c .before .before .before .union in
+    let laid = sealed (now (e .args .words)) (e .args .m) (e .args .count) (made .result) (omega arith) (omega arith) (made .ensures) in
     rw (c .before .before .put .ensures) laid
 
 pub seal-spec : {M : Type 1} → statement M

@@ -15,7 +15,8 @@ returns c =
     let e = c .before .before .before .before .before .before .before .before in
     let u = c .before .before .before .before .before .used in
     let s = c .before .before .seal in
-    (replaces-one (now (e .args .words)) (now (e .args .words)) (s .last .0) (e .args .m) (e .pre .1) (u .result) (u .ensures .0) (s .ensures) (omega arith) refl, omega arith)
+    let words = now (e .args .words) in
+    (replaces-one words words (s .last .0) (e .args .m) (e .pre .1) (u .result) (u .ensures .0) (s .ensures) (omega arith) refl, omega arith)
 
 returns-2 : tie.Need-returns-2
 returns-2 c =
@@ -23,7 +24,8 @@ returns-2 c =
     let u = c .before .before .before .before .before .before .before .before .before .before .used in
     let up = c .before .before .before .before .before .before .move-up in
     let s = c .before .before .seal2 in
-    (replaces-none (now (e .args .words)) (up .last .0) (s .last .0) (e .args .m) (e .pre .1) (u .result) (u .ensures .0) (s .ensures) (omega arith) (omega arith) (omega arith) (up .ensures), omega arith)
+    let laid = replaces-none (now (e .args .words)) (up .last .0) (s .last .0) (e .args .m) (e .pre .1) (u .result) (u .ensures .0) (s .ensures) in
+    (laid (omega arith) (omega arith) (omega arith) (up .ensures), omega arith)
 
 returns-3 : tie.Need-returns-3
 returns-3 c =
@@ -31,11 +33,12 @@ returns-3 c =
     let u = c .before .before .before .before .before .before .before .before .before .before .before .used in
     let down = c .before .before .before .before .before .before .move-down in
     let s = c .before .before .seal3 in
-    let end : c .before .before .before .before .before .before .before .before .lesser .result ≡ min (u .result + 1) recordLimit = omega arith in (
-      replaces-more (now (e .args .words)) (down .last .0) (s .last .0) (e .args .m) (e .pre .1) (u .result) (u .ensures .0) (s .ensures) (omega arith) (omega arith) (omega arith)
-          (subst (λ (k : ℕ). MovedDown (now (e .args .words)) (e .args .m .first + 1) (e .args .m .last) k (down .last .0)) end (down .ensures)),
-      omega arith,
-    )
+    let words = now (e .args .words) in
+    let m = e .args .m in
+    let end : c .before .before .before .before .before .before .before .before .lesser .result ≡ min (u .result + 1) recordLimit = omega arith in
+    let moved = subst (λ (k : ℕ). MovedDown words (m .first + 1) (m .last) k (down .last .0)) end (down .ensures) in
+    let laid = replaces-more words (down .last .0) (s .last .0) m (e .pre .1) (u .result) (u .ensures .0) (s .ensures) in
+    (laid (omega arith) (omega arith) (omega arith) moved, omega arith)
 
 pub splice-spec : {M : Type 1} → statement M
 splice-spec =
