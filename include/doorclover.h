@@ -51,9 +51,9 @@
  *
  * Stack, in bytes, arguments on it included and the return address not. It was measured on a painted
  * stack, and is not proved. What your memcpy and memset take comes on top.
- *     fresh   0      begin 128      host write  48      frame read   168
- *     show   96      fetch 504      own write  224      frame write   48
- *                    end   176                          journal     3400
+ *     fresh   0      begin 104      host write  48      frame read   168
+ *     show  104      fetch 504      own write  168      frame write   48
+ *                    end   152                          journal     3336
  * DOORCLOVER_STACK and DOORCLOVER_JOURNAL_STACK are these with some room.
  *
  * Targets: archives for x86-64, AArch64 and RISC-V 64 (rv64gc, lp64d), little-endian, ELF, by the
@@ -144,11 +144,13 @@ enum {
  *     word 2 + 2 * i    how many bytes it has
  *
  * The words hold together if, for each command, there are at most 64 records; they stand by ascending
- * address, have 1 byte or more, share none and end at 65,536 or below; they have at most 4,096 bytes
- * in all; and the words behind them are zero (all 128 of a closed command).
+ * address with at least one address between each and the next (records that touch do not hold
+ * together), have 1 byte or more and end at 65,536 or below; they have at most 4,096 bytes in all; and
+ * the words behind them are zero (all 128 of a closed command).
  *
  * All zero is the fresh state, so that a static one needs no call. There is no padding: a state may
- * be compared and checksummed byte for byte, and kept and taken up again together with its store.
+ * be compared and checksummed byte for byte, and kept and taken up again together with its store, by
+ * the archive that left it.
  */
 typedef struct doorclover_state {
     uint16_t words[DOORCLOVER_STATE_WORDS];

@@ -1,6 +1,6 @@
 -- A step that was read, made as a call: what it answers and what it leaves (01, the agreed scope, "The calls"; docs/RULES.md has its
--- rules). The definitions are those of the claims
--- over lists of calls, so that a journal of frames is a list of calls to which the claims apply.
+-- rules). The definitions are those of the claims over lists of calls, so that a journal of frames is a list of calls to which the claims
+-- apply.
 use Prim.Native.Nat.{ℕ, _≤_}
 use mathlib.Core.Path.{_≡_}
 use mathlib.Core.List.{List}

@@ -1,6 +1,5 @@
 -- The marked situations of 01 (the agreed scope, with request F-1 of 02; docs/RULES.md has their rules) with a star. Each starts with
--- command 0 open, no records,
--- and a window of 16,384 bytes.
+-- command 0 open, no records, and a window of 16,384 bytes.
 use Prim.Native.Nat.{ℕ, _*_, _%_}
 use mathlib.Core.Path.{_≡_}
 use mathlib.Core.List.{List, [], _∷_, _++_, map}
@@ -50,7 +49,7 @@ unfoldable pub A : List Step
 unfolding fetches
 A = fetches 16 4 4 0 (is (16 ∔ 4 ∷ [])) ∷ fetches 14 8 4 4 (is (14 ∔ 8 ∷ [])) ∷ []
 
--- since F-1 one record after the second fetch
+-- F-1: one record after the second fetch
 unfoldable pub B : List Step
 unfolding fetches
 B = fetches 0 4 4 0 unsaid ∷ fetches 4 4 4 0 (is (0 ∔ 8 ∷ [])) ∷ fetches 2 4 0 4 (is (0 ∔ 8 ∷ [])) ∷ []

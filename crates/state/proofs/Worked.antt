@@ -1,5 +1,5 @@
--- The rules of records on small numbers. The first three joins are those of situations A and B of 01 (the agreed scope;
--- docs/RULES.md has its rules).
+-- The rules of records on small numbers. The first three joins are those of situations A and B of 01 (the agreed scope, with request F-1
+-- of 02; docs/RULES.md has their rules).
 use Prim.Native.Nat.{ℕ}
 use mathlib.Core.Path.{_≡_, refl}
 use mathlib.Core.List.{[], _∷_}
@@ -20,6 +20,10 @@ overlapping = refl
 touching : joined (4 at 0 ∷ []) 4 4 ≡ 8 at 0 ∷ []
 unfolding joined keep lowest highest
 touching = refl
+
+inside-one : joined (8 at 0 ∷ []) 2 4 ≡ 8 at 0 ∷ []
+unfolding joined keep lowest highest
+inside-one = refl
 
 touching-both : joined (4 at 0 ∷ 2 at 6 ∷ 1 at 9 ∷ []) 4 2 ≡ 8 at 0 ∷ 1 at 9 ∷ []
 unfolding joined keep lowest highest

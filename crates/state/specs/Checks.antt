@@ -54,7 +54,7 @@ commandAlreadyOpen s c = isOpen s c ⇒ number CommandAlreadyOpen
 abbrev pub tooManyBytes : List Record → (a n : ℕ) → Check
 tooManyBytes rs a n = ltb heldLimit (total rs + fresh rs a n) ⇒ number TooManyBytes
 
--- 24: no room for the records, counted after the span is joined
+-- 24: no room for the records, counted after the span is joined, with what it touches too (F-1)
 abbrev pub tooManyRecords : List Record → (a n : ℕ) → Check
 tooManyRecords rs a n = ltb recordLimit (length (joined rs a n)) ⇒ number TooManyRecords
 

@@ -52,7 +52,7 @@ unfoldable pub keep : (Record → Bool) → List Record → List Record
 keep p [] = []
 keep p (r ∷ rs) = cond (p r) (r ∷ keep p rs) (keep p rs)
 
--- 01's sharing of a byte between a record and the span
+-- 01's sharing of a byte between a record and the span, where each has a byte or more
 abbrev pub shares : ℕ → ℕ → Record → Bool
 shares a n r = ltb (r .start) (a + n) && ltb a (past r)
 

@@ -1,5 +1,6 @@
 // The state of the fetch cache: which commands are open, and which host bytes each of them holds. Definitions in specs/ say what the
-// words of a state stand for, and laws in proofs/ say what its records do. The code that reads and changes the words is in `words`.
+// words of a state stand for, and laws in proofs/ say what its records do. The code that reads and changes the words is in `words`,
+// `integrity` and `join`.
 ghost use mathlib.Core.Path.{_≡_};
 ghost use Rattle.state.specs.Limits.{limits};
 ghost use Rattle.state.specs.State.{freshState};

@@ -1,5 +1,5 @@
-// Numbers and bytes as text, put into lent buffers. Each function takes every input: what does not fit is left out, and the reply is the
-// place behind what was put.
+// Numbers and bytes as text, put into lent buffers. Each function that puts takes every input: what does not fit is left out, and the
+// reply is the place behind what was put.
 mod byte;
 mod decimal;
 mod hexadecimal;
