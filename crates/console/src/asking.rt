@@ -1,5 +1,4 @@
 // What a program is asked to do: its one argument, or none.
-use crate::quoting::quote;
 use crate::saying::NOTE;
 use crate::saying::say;
 use crate::saying::say_failed;
@@ -8,6 +7,7 @@ use crate::saying::tell;
 use crate::saying::within;
 use libc::PATH_MAX;
 use libc::STDIN_FILENO;
+use notes::quote;
 use octets::put;
 
 // The most bytes of a file name.

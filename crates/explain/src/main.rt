@@ -83,7 +83,7 @@ fn run_frames(input: &[u8]) {
 
 // Steps that are given for frames.
 fn say_if_text(input: &[u8]) {
-    if console::looks_like_text(input) {
+    if notes::looks_like_text(input) {
         console::say_text(b"explain: the input looks like steps; leave --frames out\n");
     }
 }
@@ -122,7 +122,7 @@ fn refused(tally: Tally) -> usize {
 fn sum_up(tally: Tally) {
     let mut note = [0u8; console::NOTE];
     let next = put(&mut note, 0, b"explain: ");
-    let next = console::put_run(
+    let next = notes::put_run(
         &mut note,
         next,
         tally.frames,
@@ -131,7 +131,7 @@ fn sum_up(tally: Tally) {
         tally.early,
     );
     let next = put_expected(&mut note, next, tally.held, tally.failed);
-    let next = console::put_lost(
+    let next = notes::put_lost(
         &mut note,
         next,
         b", output lost from line ",
@@ -148,7 +148,7 @@ fn put_expected(note: &mut [u8], at: usize, held: usize, failed: usize) -> usize
         return at;
     }
     let next = put(note, at, b", ");
-    let next = console::put_count(note, next, held, b"expectation");
+    let next = notes::put_count(note, next, held, b"expectation");
     let next = put(note, next, b" held, ");
     let next = text::put_decimal(note, next, failed);
     put(note, next, b" failed")

@@ -2,9 +2,9 @@
 use crate::parts::find;
 use crate::parts::put_parts;
 use crate::parts::put_span;
-use console::put_count;
 use frames::Step;
 use log::Answer;
+use notes::put_count;
 use octets::put;
 use state::CacheState;
 use state::Refusal;

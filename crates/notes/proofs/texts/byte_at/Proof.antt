@@ -6,8 +6,8 @@ use mathlib.Core.List.{List, [], _∷_}
 use lib.ListN.{length, getD}
 use denote.Ref.{now}
 use borrow.Author.Needs.{needs}
-use Rattle.console.proofs.texts.byte_at.Statement.{statement}
-use Rattle.console.proofs.texts.byte_at.Tie as tie
+use Rattle.notes.proofs.texts.byte_at.Statement.{statement}
+use Rattle.notes.proofs.texts.byte_at.Tie as tie
 
 past : (bytes : List ℕ) (i : ℕ) → length bytes ≤ i → 0 ≡ getD bytes i 0
 past [] i h = refl

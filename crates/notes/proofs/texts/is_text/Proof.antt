@@ -1,7 +1,7 @@
 -- Each test decides a part of the definition.
 use borrow.Author.Tests.{eq-eqb, ne-eqb, le-leb, lt-leb}
-use Rattle.console.proofs.texts.is_text.Statement.{statement}
-use Rattle.console.proofs.texts.is_text.Tie as tie
+use Rattle.notes.proofs.texts.is_text.Statement.{statement}
+use Rattle.notes.proofs.texts.is_text.Tie as tie
 
 returns-2 : tie.Need-returns-2
 returns-2 c =

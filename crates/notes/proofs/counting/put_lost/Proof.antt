@@ -7,9 +7,9 @@ use borrow.Author.Tests.{le-leb, lt-leb}
 use Rattle.octets.specs.Text.{ascii}
 use Rattle.text.specs.Decimal.{decimal}
 use Rattle.text.proofs.Putting.{puts-is, puts-both}
-use Rattle.console.specs.Counting.{lost}
-use Rattle.console.proofs.counting.put_lost.Statement.{statement}
-use Rattle.console.proofs.counting.put_lost.Tie as tie
+use Rattle.notes.specs.Counting.{lost}
+use Rattle.notes.proofs.counting.put_lost.Statement.{statement}
+use Rattle.notes.proofs.counting.put_lost.Tie as tie
 
 module _ (words : List ℕ) (all kept : ℕ) where
   none : all ≤ kept → [] ≡ lost words all kept

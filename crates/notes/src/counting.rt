@@ -1,7 +1,7 @@
 // Counts as a message tells them.
 ghost use mathlib.Core.Path.{_≡_};
 ghost use Rattle.octets.specs.Text.{Puts};
-ghost use Rattle.console.specs.Counting.{counted, told, lost};
+ghost use Rattle.notes.specs.Counting.{counted, told, lost};
 use octets::put;
 use text::put_decimal;
 

@@ -11,9 +11,9 @@ use denote.Ref.{now}
 use borrow.Author.Needs.{needs}
 use Rattle.octets.specs.Text.{ascii, Puts}
 use Rattle.text.proofs.Putting.{puts-is, puts-none, puts-both, puts-length}
-use Rattle.console.specs.Quoting.{quotedByte, quotedAll, quoted}
-use Rattle.console.proofs.quoting.quote.Statement.{statement}
-use Rattle.console.proofs.quoting.quote.Tie as tie
+use Rattle.notes.specs.Quoting.{quotedByte, quotedAll, quoted}
+use Rattle.notes.proofs.quoting.quote.Statement.{statement}
+use Rattle.notes.proofs.quoting.quote.Tie as tie
 
 quoted-append : (xs ys : List ℕ) → quotedAll (xs ++ ys) ≡ quotedAll xs ++ quotedAll ys
 unfolding quotedAll

@@ -7,9 +7,9 @@ use lib.ListN.{getD}
 use denote.Ref.{now}
 use borrow.Author.Needs.{needs}
 use Rattle.octets.specs.Lists.{all}
-use Rattle.console.specs.Texts.{isText, isMark}
-use Rattle.console.proofs.texts.looks_like_text.Statement.{statement}
-use Rattle.console.proofs.texts.looks_like_text.Tie as tie
+use Rattle.notes.specs.Texts.{isText, isMark}
+use Rattle.notes.proofs.texts.looks_like_text.Statement.{statement}
+use Rattle.notes.proofs.texts.looks_like_text.Tie as tie
 
 -- the mark looked for at the front
 module _ (c : tie.After-is-mark) where

@@ -11,9 +11,9 @@ use borrow.Author.Needs.{needs}
 use Rattle.octets.specs.Text.{ascii}
 use Rattle.text.specs.Hexadecimal.{hexPair, hexadecimal}
 use Rattle.text.proofs.Putting.{puts-is, puts-both}
-use Rattle.console.specs.Quoting.{isPlain, quotedByte}
-use Rattle.console.proofs.quoting.quote_byte.Statement.{statement}
-use Rattle.console.proofs.quoting.quote_byte.Tie as tie
+use Rattle.notes.specs.Quoting.{isPlain, quotedByte}
+use Rattle.notes.proofs.quoting.quote_byte.Statement.{statement}
+use Rattle.notes.proofs.quoting.quote_byte.Tie as tie
 
 -- a text of one byte, plain or not
 plain : (text : List ℕ) → length text ≡ 1 → isPlain (getD text 0 0) ≡ true → text ≡ quotedByte (getD text 0 0)

@@ -8,9 +8,9 @@ use borrow.Author.Tests.{eq-eqb, ne-eqb}
 use Rattle.octets.specs.Text.{ascii}
 use Rattle.text.specs.Decimal.{decimal}
 use Rattle.text.proofs.Putting.{puts-is, puts-both}
-use Rattle.console.specs.Counting.{counted}
-use Rattle.console.proofs.counting.put_count.Statement.{statement}
-use Rattle.console.proofs.counting.put_count.Tie as tie
+use Rattle.notes.specs.Counting.{counted}
+use Rattle.notes.proofs.counting.put_count.Statement.{statement}
+use Rattle.notes.proofs.counting.put_count.Tie as tie
 
 module _ (n : ℕ) (noun : List ℕ) where
   one : n ≡ 1 → decimal n ++ (ascii " " ++ (noun ++ [])) ≡ counted n noun

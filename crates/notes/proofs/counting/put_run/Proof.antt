@@ -7,9 +7,9 @@ use borrow.Author.Needs.{needs}
 use Rattle.octets.specs.Text.{ascii, Puts}
 use Rattle.text.specs.Decimal.{decimal}
 use Rattle.text.proofs.Putting.{puts-is, puts-both}
-use Rattle.console.specs.Counting.{counted, told}
-use Rattle.console.proofs.counting.put_run.Statement.{statement}
-use Rattle.console.proofs.counting.put_run.Tie as tie
+use Rattle.notes.specs.Counting.{counted, told}
+use Rattle.notes.proofs.counting.put_run.Statement.{statement}
+use Rattle.notes.proofs.counting.put_run.Tie as tie
 
 module _ (frames carried refused : ℕ) (early : Bool) where
   abbrev before : List ℕ → List ℕ

@@ -2,7 +2,7 @@
 ghost use mathlib.Core.Path.{_≡_};
 ghost use lib.ListN.{length, getD};
 ghost use Rattle.octets.specs.Text.{Puts};
-ghost use Rattle.console.specs.Quoting.{isPlain, quotedByte, quoted};
+ghost use Rattle.notes.specs.Quoting.{isPlain, quotedByte, quoted};
 use octets::lesser;
 use octets::put;
 

@@ -11,9 +11,9 @@ use denote.Ref.{now}
 use borrow.Author.Needs.{needs}
 use borrow.Author.Tests.{not-true, not-false}
 use Rattle.octets.specs.Lists.{all}
-use Rattle.console.specs.Texts.{isText}
-use Rattle.console.proofs.texts.is_all_text.Statement.{statement}
-use Rattle.console.proofs.texts.is_all_text.Tie as tie
+use Rattle.notes.specs.Texts.{isText}
+use Rattle.notes.proofs.texts.is_all_text.Statement.{statement}
+use Rattle.notes.proofs.texts.is_all_text.Tie as tie
 
 -- the next byte is text, or it is not
 module _ (bytes : List ℕ) (i : ℕ) (inside : i < length bytes) where

@@ -2,7 +2,7 @@
 ghost use mathlib.Core.Path.{_≡_};
 ghost use lib.ListN.{getD};
 ghost use Rattle.octets.specs.Lists.{all};
-ghost use Rattle.console.specs.Texts.{isText, isMark, looksLikeText};
+ghost use Rattle.notes.specs.Texts.{isText, isMark, looksLikeText};
 
 // A tab, the end of a line, a printable character of ASCII, or a byte of a character beyond ASCII.
 fn is_text(byte: u8) -> bool
