@@ -21,9 +21,11 @@ pub record Shows (d : Device) (number : ℕ) (frame line : List ℕ) (r : Shown)
   pub size : r .size ≡ length (lineOf number (letterOf frame) (frameSays d frame) (frameDelivers d frame))
   pub whole : line′ ≡ overwrite line 0 (lineOf number (letterOf frame) (frameSays d frame) (frameDelivers d frame))
 
--- a journal: every frame of it is carried out, whether its line is written or not
+-- a journal: every frame of it is carried out, whether its line is written or not; how many there are, an unreadable one counted, how many
+-- were carried out and how many a call refused, and whether an unreadable one ended the run
 pub record Prints (d : Device) (input : List ℕ) (r : Printed) (words′ store′ window′ dest′ : List ℕ) : Type 0 where
   pub leaves : deviceOf words′ store′ window′ dest′ ≡ journalLeaves d input
+  pub frames : r .frames ≡ length (entries d input)
   pub carried : r .carried ≡ count wasCarried (entries d input)
   pub refused : r .refused ≡ count wasRefused (entries d input)
   pub early : r .early ≡ endsEarly (entries d input)

@@ -1,5 +1,6 @@
 // A journal is run. The line of each frame is made whole at the front of a buffer and written to standard output.
 ghost use mathlib.Core.Path.{_≡_};
+ghost use mathlib.Core.Bool.{cond};
 ghost use Prim.Native.Nat.{_+_, _-_, _≤_, _<_, _^_};
 ghost use lib.ListN.{length};
 ghost use Rattle.device.specs.Step.{deviceOf};
@@ -55,7 +56,7 @@ fn print_frame(
 // How a run went in which so many frames were read; an unreadable one may have ended it.
 fn summed(read: usize, carried: usize, early: bool, kept: usize) -> Printed
     requires { ⌜ (carried ≤ read) × (read + 1 < 2 ^ 64) ⌝ }
-    ensures { λ r. ⌜ (r .carried ≡ carried) × (r .refused ≡ read - carried) × (r .early ≡ early) ⌝ }
+    ensures { λ r. ⌜ (r .carried ≡ carried) × (r .refused ≡ read - carried) × (r .early ≡ early) × (r .frames ≡ read + cond early 1 0) ⌝ }
 {
     Printed {
         frames: read + one_if(early),

@@ -17,6 +17,7 @@ use Rattle.device.specs.Frame.{isReadable, letterOf, frameSays, frameDelivers}
 use Rattle.journal.specs.Run.{Replays}
 use Rattle.journal.proofs.Running.{Running, running-start, running-turn, taken-read, taken-unread, replays-unreadable, replays-all}
 use Rattle.fetchlog.specs.Print.{Shows}
+use Rattle.fetchlog.proofs.Counted.{all-told}
 use Rattle.fetchlog.proofs.printing.print_log.Statement.{statement}
 use Rattle.fetchlog.proofs.printing.print_log.Tie as tie
 
@@ -100,6 +101,9 @@ module _ (g : tie.After-print-frame Inv-loop μ-loop) where
       go true e = absurd (omega (arith, taken-read (frame l) e .some, shown .taken, none))
       go false e = refl
 
+abbrev one-if : Bool → ℕ
+one-if b = cond b 1 0
+
 returns : tie.Need-returns Inv-loop μ-loop
 returns c =
     let g = c .before .before .before .before .before .before .before .before .before .before .before in
@@ -108,7 +112,14 @@ returns c =
     (was-unread g (omega arith))
     (shown g .leaves) in
     let sum = c .summed .ensures in
-    record { leaves = R .leaves; carried = sum .0 ∙ R .carried; refused = sum .1 ∙ R .refused; early = sum .2 ∙ R .early }
+    let early = ap one-if (R .early) in
+    record {
+      leaves = R .leaves;
+      frames = omega (arith, sum, all-told (length (input (l g))) (device (start (l g))) (input (l g)), R .carried, R .refused, early, running (l g) .some);
+      carried = sum .0 ∙ R .carried;
+      refused = sum .1 ∙ R .refused;
+      early = sum .2 ∙ R .early;
+    }
 
 -- a frame that was read and is counted
 module _ (c : tie.After-one-if2 Inv-loop μ-loop) where
@@ -144,7 +155,14 @@ returns-2 c =
     let l = c .before .before in
     let R = replays-all (device (start l)) (input l) [] _ _ 0 _ (d l) [] (running l) (c .before .loop-test .left) refl in
     let sum = c .summed2 .ensures in
-    record { leaves = R .leaves; carried = sum .0 ∙ R .carried; refused = sum .1 ∙ R .refused; early = sum .2 ∙ R .early }
+    let early = ap one-if (R .early) in
+    record {
+      leaves = R .leaves;
+      frames = omega (arith, sum, all-told (length (input l)) (device (start l)) (input l), R .carried, R .refused, early, running l .some);
+      carried = sum .0 ∙ R .carried;
+      refused = sum .1 ∙ R .refused;
+      early = sum .2 ∙ R .early;
+    }
 
 pub print-log-spec : {M : Type 1} → statement M
 print-log-spec =
