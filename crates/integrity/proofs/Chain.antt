@@ -1,117 +1,87 @@
 -- Laws of the walk over the rules of the records.
-use Prim.Native.Nat.{ℕ, suc, _+_, _<_, _≤_}
+use Prim.Native.Nat.{ℕ, suc, _+_, _<_, _≤_, _^_}
 use native.Mathlib.Omega.{arith}
 use mathlib.Core.Path.{_≡_, refl, sym}
 use mathlib.Core.List.{List, [], _∷_}
-use mathlib.Core.Bool.{Bool, true, false, cond, _&&_}
-use lib.Dec.{ltb, leb, eqb}
-use lib.ListN.{length}
-use borrow.Author.Tests.{ltb-true, leb-true, leb-false, le-leb, lt-leb, lt-ltb, le-ltb, eqb-true, eqb-false, eq-eqb, ne-eqb}
+use mathlib.Core.Bool.{Bool, true, false, _&&_}
+use lib.Bits.{bitOr, or-lt, or-add-and, and-le-l, and-le-r}
+use lib.Dec.{ltb, leb}
+use borrow.Author.Tests.{ltb-true, ltb-false, leb-true, leb-false, le-leb, lt-leb, lt-ltb, le-ltb}
 use Rattle.octets.proofs.Lists.{and-left, and-right}
 use Rattle.state.specs.declared.Record.{Record}
 use Rattle.state.specs.Limits.{heldLimit, windowLimit}
 use Rattle.state.specs.Records.{past, total}
 use Rattle.state.specs.State.{ascending}
-use Rattle.integrity.specs.Holds.{goodOf, goodAtZero}
+use Rattle.integrity.specs.Holds.{isFaultless}
 
--- Records in a chain behind an address: each starts behind the address after the one before it, so that one lies between them, the first
--- behind that address, and is not empty. A chain that ends where addresses do is records that ascend, so that a walk asks for that once, at
--- its end.
+-- a bitwise or has its highest bit set if one of the two has
+pub or-faultless : (a b : ℕ) → isFaultless (bitOr a b) ≡ (isFaultless a && isFaultless b)
+or-faultless a b = go (isFaultless a) refl (isFaultless b) refl
+  where
+    go : (p : Bool) → isFaultless a ≡ p → (q : Bool) → isFaultless b ≡ q → isFaultless (bitOr a b) ≡ (p && q)
+    go true e true f = lt-ltb (bitOr a b) 2147483648 (or-lt 31 a b (ltb-true a 2147483648 e) (ltb-true b 2147483648 f))
+    go true e false f = le-ltb (bitOr a b) 2147483648 (omega (arith, or-add-and a b, and-le-l a b, ltb-false b 2147483648 f))
+    go false e q f = le-ltb (bitOr a b) 2147483648 (omega (arith, or-add-and a b, and-le-r a b, ltb-false a 2147483648 e))
+
+-- Records in a chain: each starts at the lowest address that is left to it or behind it, which is the second after the one before it, so that
+-- an address lies between them, and is not empty. A chain that ends where addresses do is records that ascend, so that a walk asks for
+-- that once, at its end.
 unfoldable pub chained : ℕ → List Record → Bool
-chained end [] = true
-chained end (r ∷ rs) = ltb end (r .start) && ltb 0 (r .len) && chained (past r) rs
+chained low [] = true
+chained low (r ∷ rs) = leb low (r .start) && ltb 0 (r .len) && chained (suc (past r)) rs
 
-unfoldable pub chainEnd : ℕ → List Record → ℕ
-chainEnd end [] = end
-chainEnd end (r ∷ rs) = chainEnd (past r) rs
+unfoldable pub chainLow : ℕ → List Record → ℕ
+chainLow low [] = low
+chainLow low (r ∷ rs) = chainLow (suc (past r)) rs
 
-chain-reaches : (end : ℕ) (rs : List Record) → chained end rs ≡ true → end ≤ chainEnd end rs
-unfolding chained chainEnd
-chain-reaches end [] up = omega arith
-chain-reaches end (r ∷ rs) up =
-    let first = and-left (ltb end (r .start) && ltb 0 (r .len)) (chained (past r) rs) up in
-    let rest = and-right (ltb end (r .start) && ltb 0 (r .len)) (chained (past r) rs) up in
-    omega (arith, ltb-true end (r .start) (and-left (ltb end (r .start)) (ltb 0 (r .len)) first), chain-reaches (past r) rs rest)
+chain-reaches : (low : ℕ) (rs : List Record) → chained low rs ≡ true → low ≤ chainLow low rs
+unfolding chained chainLow
+chain-reaches low [] up = omega arith
+chain-reaches low (r ∷ rs) up =
+    let first = and-left (leb low (r .start) && ltb 0 (r .len)) (chained (suc (past r)) rs) up in
+    let rest = and-right (leb low (r .start) && ltb 0 (r .len)) (chained (suc (past r)) rs) up in
+    omega (arith, leb-true low (r .start) (and-left (leb low (r .start)) (ltb 0 (r .len)) first), chain-reaches (suc (past r)) rs rest)
+
+-- a chain that has passed the last address does not come back
+chain-far : (low : ℕ) (rs : List Record) → suc windowLimit < low → (chained low rs && leb (chainLow low rs) (suc windowLimit)) ≡ false
+chain-far low rs over = go (chained low rs) refl
+  where
+    go : (c : Bool) → chained low rs ≡ c → (c && leb (chainLow low rs) (suc windowLimit)) ≡ false
+    go true up = lt-leb (chainLow low rs) (suc windowLimit) (omega (arith, chain-reaches low rs up))
+    go false up = refl
 
 -- a record in front of others of which this is known where it ends where addresses do
-module _ (lo : ℕ) (r : Record) (rs : List Record)
-    (behind : past r ≤ windowLimit → ascending (suc (past r)) rs ≡ (chained (past r) rs && leb (chainEnd (past r) rs) windowLimit)) where
+module _ (low : ℕ) (r : Record) (rs : List Record)
+    (behind : past r ≤ windowLimit → ascending (suc (past r)) rs ≡ (chained (suc (past r)) rs && leb (chainLow (suc (past r)) rs) (suc windowLimit))) where
   abbrev first : Bool
-  first = leb lo (r .start) && ltb 0 (r .len)
+  first = leb low (r .start) && ltb 0 (r .len)
+
+  abbrev rest : Bool
+  rest = chained (suc (past r)) rs
+
+  abbrev ends : Bool
+  ends = leb (chainLow (suc (past r)) rs) (suc windowLimit)
 
   regroup : (x c e : Bool) → (x && true && (c && e)) ≡ (x && c && e)
   regroup true c e = refl
   regroup false c e = refl
 
-  -- a chain that has passed the last address does not come back
-  far : windowLimit < past r → (c : Bool) → chained (past r) rs ≡ c → (x : Bool)
-      → (x && false && ascending (suc (past r)) rs) ≡ (x && c && leb (chainEnd (past r) rs) windowLimit)
-  far over true up true = sym (lt-leb (chainEnd (past r) rs) windowLimit (omega (arith, chain-reaches (past r) rs up)))
-  far over false up true = refl
-  far over c up false = refl
+  cut-off : (x z c e : Bool) → (c && e) ≡ false → (x && false && z) ≡ (x && c && e)
+  cut-off true z c e h = sym h
+  cut-off false z c e h = refl
 
-  ascending-first : ascending lo (r ∷ rs) ≡ (first && chained (past r) rs && leb (chainEnd (past r) rs) windowLimit)
-  unfolding ascending
-  ascending-first = go (leb (past r) windowLimit) refl
-    where
-      go : (b : Bool) → leb (past r) windowLimit ≡ b
-          → (first && leb (past r) windowLimit && ascending (suc (past r)) rs) ≡ (first && chained (past r) rs && leb (chainEnd (past r) rs) windowLimit)
-      go true e = rw (e, behind (leb-true (past r) windowLimit e)) (regroup first (chained (past r) rs) (leb (chainEnd (past r) rs) windowLimit))
-      go false e = rw e (far (leb-false (past r) windowLimit e) (chained (past r) rs) refl first)
+  in-front : (b : Bool) → leb (past r) windowLimit ≡ b → (first && b && ascending (suc (past r)) rs) ≡ (first && rest && ends)
+  in-front true e = rw (behind (leb-true (past r) windowLimit e)) (regroup first rest ends)
+  in-front false e =
+      cut-off first (ascending (suc (past r)) rs) rest ends (chain-far (suc (past r)) rs (omega (arith, leb-false (past r) windowLimit e)))
 
-ascending-chained : (end : ℕ) (rs : List Record) → end ≤ windowLimit → ascending (suc end) rs ≡ (chained end rs && leb (chainEnd end rs) windowLimit)
-unfolding ascending chained chainEnd
-ascending-chained end [] low = sym (le-leb end windowLimit low)
-ascending-chained end (r ∷ rs) low = ascending-first (suc end) r rs (ascending-chained (past r) rs)
+pub ascending-chained : (low : ℕ) (rs : List Record) → low ≤ suc windowLimit → ascending low rs ≡ (chained low rs && leb (chainLow low rs) (suc windowLimit))
+unfolding ascending chained chainLow
+ascending-chained low [] h = sym (le-leb low (suc windowLimit) h)
+ascending-chained low (r ∷ rs) h =
+    in-front low r rs (λ fits. ascending-chained (suc (past r)) rs (omega arith)) (leb (past r) windowLimit) refl
 
--- The records that are good in a chain are counted
-
-unfoldable pub goods : ℕ → List Record → ℕ
-goods end [] = 0
-goods end (r ∷ rs) = goodOf end (r .start) (r .len) + goods (past r) rs
-
-goods-most : (end : ℕ) (rs : List Record) → goods end rs ≤ length rs
-unfolding goods
-goods-most end [] = omega arith
-goods-most end (r ∷ rs) = go (ltb end (r .start) && ltb 0 (r .len)) (goods-most (past r) rs)
-  where
-    go : (b : Bool) → goods (past r) rs ≤ length rs → cond b 1 0 + goods (past r) rs ≤ suc (length rs)
-    go true most = omega arith
-    go false most = omega arith
-
--- one that is good or not in front of others, all of which are good or not
-all-of : (b : Bool) (g n : ℕ) → g ≤ n → eqb (cond b 1 0 + g) (suc n) ≡ (b && eqb g n)
-all-of true g n most = go (eqb g n) refl
-  where
-    go : (e : Bool) → eqb g n ≡ e → eqb (1 + g) (suc n) ≡ e
-    go true e = eq-eqb (1 + g) (suc n) (omega (arith, eqb-true g n e))
-    go false e = ne-eqb (1 + g) (suc n) (omega (arith, eqb-false g n e))
-all-of false g n most = ne-eqb (0 + g) (suc n) (omega arith)
-
--- they are a chain if all are good
-all-good : (end : ℕ) (rs : List Record) → eqb (goods end rs) (length rs) ≡ chained end rs
-unfolding goods chained
-all-good end [] = refl
-all-good end (r ∷ rs) = rw (all-of (ltb end (r .start) && ltb 0 (r .len)) (goods (past r) rs) (length rs) (goods-most (past r) rs), all-good (past r) rs)
-
--- the first may start at any address, 0 too
-first-good : (r : Record) (g : ℕ) → goodAtZero r + (goodOf 0 (r .start) (r .len) + g) ≡ cond (ltb 0 (r .len)) 1 0 + g
-first-good r g = go (eqb (r .start) 0) refl (ltb 0 (r .len))
-  where
-    go : (z : Bool) → eqb (r .start) 0 ≡ z → (b : Bool) → cond (z && b) 1 0 + (cond (ltb 0 (r .start) && b) 1 0 + g) ≡ cond b 1 0 + g
-    go true e b = rw (le-ltb 0 (r .start) (omega (arith, eqb-true (r .start) 0 e))) (omega arith)
-    go false e b = rw (lt-ltb 0 (r .start) (omega (arith, eqb-false (r .start) 0 e))) (omega arith)
-
--- so records are told by their goods, where they end, and their total
-pub kept-by : (r : Record) (rs : List Record)
-    → (eqb (goodAtZero r + goods 0 (r ∷ rs)) (length (r ∷ rs)) && leb (chainEnd 0 (r ∷ rs)) windowLimit && leb (total (r ∷ rs)) heldLimit)
-    ≡ (ascending 0 (r ∷ rs) && leb (total (r ∷ rs)) heldLimit)
-unfolding goods chainEnd
-kept-by r rs =
-    rw (
-      first-good r (goods (past r) rs),
-      all-of (ltb 0 (r .len)) (goods (past r) rs) (length rs) (goods-most (past r) rs),
-      all-good (past r) rs,
-      ascending-first 0 r rs (ascending-chained (past r) rs),
-      le-leb 0 (r .start) (omega arith),
-    )
+-- so records are told by their faults, the lowest address that is left behind them, and their total
+pub kept-by : (rs : List Record) (faultless : Bool) (low sum : ℕ) → faultless ≡ chained 0 rs → low ≡ chainLow 0 rs → sum ≡ total rs
+    → (faultless && leb low (suc windowLimit) && leb sum heldLimit) ≡ (ascending 0 rs && leb (total rs) heldLimit)
+kept-by rs faultless low sum f l t = rw (f, l, t, ascending-chained 0 rs (omega arith))

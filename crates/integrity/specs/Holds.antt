@@ -1,8 +1,8 @@
 -- What the parts of the check give.
-use Prim.Native.Nat.{ℕ, _+_, _*_, _≤_}
+use Prim.Native.Nat.{ℕ, suc, _+_, _*_, _≤_}
 use mathlib.Core.Path.{_≡_}
 use mathlib.Core.List.{List}
-use mathlib.Core.Bool.{Bool, cond, _&&_}
+use mathlib.Core.Bool.{Bool, _&&_}
 use lib.Dec.{ltb, leb, eqb}
 use Rattle.octets.specs.Lists.{all}
 use Rattle.state.specs.declared.Record.{Record}
@@ -13,27 +13,19 @@ use Rattle.integrity.specs.declared.Walk.{Walk}
 abbrev pub allZero : List ℕ → Bool
 allZero words = all (λ w. eqb w 0) words
 
--- one if a record is good in a chain: it starts behind the end of the one before it, so that they neither share a byte nor touch, and is not
--- empty
-abbrev pub goodOf : (end start len : ℕ) → ℕ
-goodOf end start len = cond (ltb end start && ltb 0 len) 1 0
-
--- one if a record that nothing stands before starts at address 0 and is not empty
-abbrev pub goodAtZero : Record → ℕ
-goodAtZero r = cond (eqb (r .start) 0 && ltb 0 (r .len)) 1 0
-
--- one record more
-abbrev pub walkedBy : Walk → Record → Walk
-walkedBy w r = record { good = w .good + goodOf (w .end) (r .start) (r .len); end = past r; sum = w .sum + r .len }
+-- a number that stands for no fault: its highest bit of 32 is not set
+abbrev pub isFaultless : ℕ → Bool
+isFaultless n = ltb n 2147483648
 
 -- how large the numbers of a walk get, so that no sum of the code wraps
 pub record Walking (w : Walk) (k : ℕ) : Type 0 where
-  pub good : w .good ≤ k
-  pub end : w .end ≤ 131072
+  pub low : w .low ≤ 131072
   pub sum : w .sum ≤ 65536 * k
 
+-- one record more: no fault if there was none and it starts at the lowest address where it may or behind it, and is not empty
 pub record Walked (w : Walk) (r : Record) (n : Walk) : Type 0 where
-  pub is : n ≡ walkedBy w r
-  pub good : n .good ≤ w .good + 1
-  pub end : n .end ≤ 131072
-  pub sum : n .sum ≤ w .sum + 65536
+  pub faults : isFaultless (n .faults) ≡ (isFaultless (w .faults) && (leb (w .low) (r .start) && ltb 0 (r .len)))
+  pub low : n .low ≡ suc (past r)
+  pub sum : n .sum ≡ w .sum + r .len
+  pub least : n .low ≤ 131072
+  pub most : n .sum ≤ w .sum + 65536

@@ -1,7 +1,7 @@
 // Whether a state holds together, read in place.
 ghost use mathlib.Core.Path.{_≡_};
 ghost use mathlib.Core.Bool.{_&&_};
-ghost use lib.Dec.{leb};
+ghost use lib.Dec.{ltb, leb};
 ghost use Prim.Native.Nat.{_<_, _≤_};
 ghost use lib.ListN.{length, drop};
 ghost use Rattle.octets.specs.Lists.{all};
@@ -9,7 +9,7 @@ ghost use Rattle.state.specs.Limits.{recordLimit, heldLimit, commandWords, stat
 ghost use Rattle.state.specs.Records.{total};
 ghost use Rattle.state.specs.State.{recordsIn, ascending, isZero, commandHolds, holds};
 ghost use Rattle.state.specs.Words.{entriesIn, commandIn, stateOf};
-ghost use Rattle.integrity.specs.Holds.{allZero, goodOf, goodAtZero, Walking, Walked};
+ghost use Rattle.integrity.specs.Holds.{allZero, isFaultless, Walking, Walked};
 use state::CacheState;
 use state::Record;
 use words::entries::entry;
@@ -22,36 +22,20 @@ fn wide32(x: u16) -> u32
     x as u32
 }
 
-// One if a record starts behind the end of the one before it, with an address between them, and is not empty.
-fn good(end: u32, start: u32, len: u32) -> u32
-    ensures { λ r. ⌜ (r ≡ goodOf end start len) × (r ≤ 1) ⌝ }
+// A number below 2^31 if a record starts at `low` or behind it and is not empty, and else one from there on, since a difference below
+// zero wraps round.
+fn fault(low: u32, start: u32, len: u32) -> u32
+    requires { ⌜ (low ≤ 131072) × (start < 65536) × (len < 65536) ⌝ }
+    ensures { λ r. ⌜ isFaultless r ≡ (leb low start && ltb 0 len) ⌝ }
 {
-    if start <= end {
-        return 0;
-    }
-    if len == 0 {
-        return 0;
-    }
-    1
+    std::num::wrapping_sub_u32(start, low) | std::num::wrapping_sub_u32(len, 1)
 }
 
-// One if a record starts at address 0, where there is no end before it to start behind, and is not empty.
-fn good_at_zero(r: Record) -> u32
-    ensures { λ n. ⌜ (n ≡ goodAtZero r) × (n ≤ 1) ⌝ }
-{
-    if 0 < r.start {
-        return 0;
-    }
-    if r.len == 0 {
-        return 0;
-    }
-    1
-}
-
-// How far a walk over the records has come: how many were good, the address after the last, and the bytes that they hold.
+// How far a walk over the records has come: the faults of those behind it, joined by a bitwise or, the lowest address at which the next may
+// start, and the bytes that they hold.
 struct Walk {
-    good: u32,
-    end: u32,
+    faults: u32,
+    low: u32,
     sum: u32,
 }
 
@@ -62,22 +46,22 @@ fn walked(w: Walk, r: Record) -> Walk
     let start = wide32(r.start);
     let len = wide32(r.len);
     Walk {
-        good: w.good + good(w.end, start, len),
-        end: start + len,
+        faults: w.faults | fault(w.low, start, len),
+        low: start + len + 1,
         sum: w.sum + len,
     }
 }
 
 // Whether each of the n records starts behind the one before it and does not touch it, is not empty and ends where addresses do, and they
-// hold no more bytes than a command may. Good records are counted, with no test before the end, since others are rare; and where each starts behind
-// the one before it, the last ends highest.
+// hold no more bytes than a command may. Faults are joined, with no test before the end, since they are rare; and where each record starts
+// behind the one before it, the last ends highest.
 fn records_hold(words: &[u16], n: usize) -> bool
-    requires { ⌜ (length (now words) ≡ commandWords) × (n ≡ length (recordsIn (commandIn (now words)))) × (0 < n) × (n ≤ recordLimit) ⌝ }
+    requires { ⌜ (length (now words) ≡ commandWords) × (n ≡ length (recordsIn (commandIn (now words)))) × (n ≤ recordLimit) ⌝ }
     ensures { λ r. ⌜ r ≡ (ascending 0 (recordsIn (commandIn (now (words .entry)))) && leb (total (recordsIn (commandIn (now (words .entry))))) heldLimit) ⌝ }
 {
     let mut w = Walk {
-        good: good_at_zero(entry(words, 0)),
-        end: 0,
+        faults: 0,
+        low: 0,
         sum: 0,
     };
     let mut i = 0;
@@ -85,11 +69,10 @@ fn records_hold(words: &[u16], n: usize) -> bool
         w = walked(w, entry(words, i));
         i = i + 1;
     }
-    let good = w.good as usize;
-    if good != n {
+    if 2147483648 <= w.faults {
         return false;
     }
-    if CacheState::WINDOW < w.end as usize {
+    if CacheState::WINDOW + 1 < w.low as usize {
         return false;
     }
     w.sum as usize <= CacheState::HELD

@@ -23,11 +23,10 @@ returns c =
 returns-2 : tie.Need-returns-2
 returns-2 c = sym (too-many (commandIn (now (c .before .before .before .before .before .args .words))) (omega arith))
 
--- a word above 1 is a record or more
 records-hold-requires : tie.Need-records-hold-requires
 records-hold-requires c κs =
     let count = used-is (now (c .before .before .before .before .before .args .words)) in
-    (omega arith, omega (arith, count), omega arith, omega arith)
+    (omega arith, omega (arith, count), omega arith)
 
 returns-3 : tie.Need-returns-3
 returns-3 c =

@@ -1,9 +1,11 @@
--- Each number is that of the definition; one record adds at most 1 to the good ones and 65,535 to the sum.
-use Prim.Native.Nat.{_+_}
+-- Each number is that of the definition; one record adds at most 65,535 to the sum.
 use native.Mathlib.Omega.{arith}
-use mathlib.Core.Path.{ap₂, _∙_}
+use mathlib.Core.Path.{ap, ap₂, _∙_}
+use mathlib.Core.Bool.{Bool, _&&_}
+use lib.Dec.{ltb, leb}
 use borrow.Author.Needs.{needs}
-use Rattle.integrity.specs.Holds.{goodOf}
+use Rattle.integrity.specs.Holds.{isFaultless}
+use Rattle.integrity.proofs.Chain.{or-faultless}
 use Rattle.integrity.proofs.walked.Statement.{statement}
 use Rattle.integrity.proofs.walked.Tie as tie
 
@@ -13,12 +15,14 @@ returns c =
     let start = f .before .before .wide32 .ensures .0 in
     let len = f .before .wide322 .ensures .0 in
     let w = f .before .before .before .args .w in
-    let goods = f .good2 .ensures .0 ∙ ap₂ (goodOf (w .end)) start len in
     record {
-      is = λ i. record { good = w .good + goods i; end = start i + len i; sum = w .sum + len i };
-      good = omega arith;
-      end = omega arith;
-      sum = omega arith;
+      faults =
+          or-faultless (w .faults) (f .fault .result)
+          ∙ ap (λ (b : Bool). isFaultless (w .faults) && b) (f .fault .ensures ∙ ap₂ (λ s l. leb (w .low) s && ltb 0 l) start len);
+      low = omega (arith, start, len);
+      sum = omega (arith, len);
+      least = omega arith;
+      most = omega arith;
     }
 
 pub walked-spec : {M : Type 1} → statement M
@@ -28,7 +32,7 @@ walked-spec =
     (λ c κs. search needs)
     (λ c κs. search needs)
     (λ c κs. search needs)
-    (λ c. search needs)
-    (λ c. search needs)
-    (λ c. search needs)
+    (λ c. omega arith)
+    (λ c. omega arith)
+    (λ c. omega arith)
     returns)
