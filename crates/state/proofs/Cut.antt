@@ -15,7 +15,7 @@ use Rattle.state.specs.declared.Meeting.{Meeting}
 use Rattle.state.specs.Records.{past, inSpan, held, total, place, highest, fresh}
 use Rattle.state.specs.State.{noRecord, ascending}
 use Rattle.state.specs.Cut.{Parted, Cut}
-use Rattle.state.proofs.Cases.{Ascends, ascends, ascending-from, ascending-lower, inside as within, above}
+use Rattle.state.proofs.Cases.{Ascends, ascends, back-ascends, ascending-from, ascending-lower, inside as within, above}
 use Rattle.state.proofs.Merge.{between}
 use Rattle.state.proofs.Places.{place-all, place-low, held-low, fresh-place, place-middle, middle-above}
 use Rattle.state.proofs.Laws.{held-joined, ascending-joined, total-append}
@@ -83,10 +83,6 @@ starts-above lo (r ∷ rs) zero up h = ascends lo r rs up .from
 starts-above lo (r ∷ rs) (suc i) up h =
     let u = ascends lo r rs up in
     omega (arith, starts-above (suc (past r)) rs i (u .rest) (omega arith))
-
-back-ascends : (lo : ℕ) (xs : List Record) (r : Record) (ys : List Record) → ascending lo (xs ++ r ∷ ys) ≡ true → Ascends (r .start) r ys
-back-ascends lo [] r ys up = let u = ascends lo r ys up in record { from = omega arith; some = u .some; fits = u .fits; rest = u .rest }
-back-ascends lo (t ∷ xs) r ys up = back-ascends (suc (past t)) xs r ys (ascends lo t (xs ++ r ∷ ys) up .rest)
 
 -- What an address that parts the records tells
 

@@ -12,6 +12,7 @@ use Rattle.state.specs.Records.{past, inSpan, held, total, place, keep, 
 use Rattle.state.specs.State.{ascending}
 use Rattle.state.proofs.Cases.{Side, before, meets, after, side, Lies, over, within, beneath, lies, Ascends, ascends, ascending-cons, ascending-from}
 use Rattle.state.proofs.Cases.{leb-same, inside, below, above}
+use Rattle.state.proofs.Keep.{keep-all, keep-none}
 use Rattle.state.proofs.Places.{place-all, place-none, place-low, place-max}
 
 -- the record from l to h
@@ -52,21 +53,6 @@ total-middle : (rs : List Record) (u r : Record) (ts : List Record) → total (r
 unfolding total
 total-middle [] u r ts = omega arith
 total-middle (t ∷ rs) u r ts = omega (arith, total-middle rs u r ts)
-
--- a test that every record of an ascending list passes, or none
-keep-all : (p : Record → Bool) (lo : ℕ) (rs : List Record) → ascending lo rs ≡ true → ((r : Record) → lo ≤ r .start → p r ≡ true) → keep p rs ≡ rs
-unfolding keep
-keep-all p lo [] up yes′ = refl
-keep-all p lo (r ∷ rs) up yes′ =
-    let u = ascends lo r rs up in
-    rw (yes′ r (u .from), keep-all p (suc (past r)) rs (u .rest) (λ t k. yes′ t (omega arith)))
-
-keep-none : (p : Record → Bool) (lo : ℕ) (rs : List Record) → ascending lo rs ≡ true → ((r : Record) → lo ≤ r .start → p r ≡ false) → keep p rs ≡ []
-unfolding keep
-keep-none p lo [] up no′ = refl
-keep-none p lo (r ∷ rs) up no′ =
-    let u = ascends lo r rs up in
-    rw (no′ r (u .from)) (keep-none p (suc (past r)) rs (u .rest) (λ t k. no′ t (omega arith)))
 
 -- an address is within the union of two that overlap exactly if it is in one of them
 within-hull : (r : Record) (l h x : ℕ) → r .start ≤ h → l ≤ past r

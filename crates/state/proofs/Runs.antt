@@ -11,12 +11,11 @@ use Rattle.state.specs.declared.Record.{Record}
 use Rattle.state.specs.Records.{past, inSpan, held, shares, touches, meets, joined}
 use Rattle.state.specs.State.{ascending, holds}
 use Rattle.state.specs.Runs.{inFront, runsFrom, runs}
-use Rattle.state.specs.Claims.{MeetsWords, AreRuns, RunsAreRuns, TouchingBroken, RecordsRuns, JoinedRuns}
+use Rattle.state.specs.Claims.{MeetsWords, AreRuns, RunsAreRuns, RecordsRuns, JoinedRuns}
 use Rattle.state.proofs.Cases.{Side, before, meets as met, after, side, Ascends, ascends, ascending-cons, ascending-from, ascending-lower, inside, below}
 use Rattle.state.proofs.Cases.{above}
 use Rattle.state.proofs.Places.{held-low}
 use Rattle.state.proofs.Laws.{held-joined, ascending-joined}
-use Rattle.state.proofs.Commands.{kept}
 
 pub meets-words : MeetsWords
 meets-words a n r = go (side a (a + n) r)
@@ -43,23 +42,6 @@ meets-words a n r = go (side a (a + n) r)
               lt-ltb (r .start) (a + n) (omega (arith, eqb-false (r .start) (a + n) q)),
               lt-ltb a (past r) (omega (arith, eqb-false (past r) a p)),
             )
-
--- Records that touch do not ascend, wherever they stand, so that no state that has them holds together.
-
-touching-not-up : (lo : ℕ) (front : List Record) (one next : Record) (behind : List Record) → past one ≡ next .start
-    → ascending lo (front ++ one ∷ next ∷ behind) ≡ false
-unfolding ascending
-touching-not-up lo [] one next behind touch = rw (lt-leb (suc (past one)) (next .start) (omega arith), and-false)
-touching-not-up lo (r ∷ front) one next behind touch = rw (touching-not-up (suc (past r)) front one next behind touch, and-false)
-
-pub touching-broken : TouchingBroken
-touching-broken s c front one next behind is touch = go (holds s) refl
-  where
-    go : (b : Bool) → holds s ≡ b → b ≡ false
-    go false h = refl
-    go true h =
-        let up : ascending 0 (front ++ one ∷ next ∷ behind) ≡ true = sym (ap (ascending 0) is) ∙ kept s c h .up in
-        absurd (false≢true (sym (touching-not-up 0 front one next behind touch) ∙ up))
 
 -- Runs of two tests
 

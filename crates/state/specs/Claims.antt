@@ -1,5 +1,5 @@
 -- The claims about records (request F-1 of 02, the agreed changes; docs/RULES.md has its rule).
-use Prim.Native.Nat.{ℕ, _+_, _≤_, _<_}
+use Prim.Native.Nat.{ℕ, _+_, _-_, _≤_, _<_}
 use mathlib.Core.Path.{_≡_}
 use mathlib.Core.List.{List, _∷_, _++_}
 use mathlib.Core.Bool.{Bool, true, false, _||_}
@@ -22,7 +22,13 @@ pub record AreRuns (test : ℕ → Bool) : Type 0 where
 abbrev pub RunsAreRuns : Type 0
 RunsAreRuns = (test : ℕ → Bool) → AreRuns test
 
--- F-1: a state in which a command has two records that touch does not hold together.
+-- F-1: of records that keep to the rules each ends before the next starts, and does not touch it: the address behind it is in neither.
+abbrev pub RecordsApart : Type 0
+RecordsApart =
+    (lo : ℕ) (before : List Record) (one next : Record) (behind : List Record)
+    → ascending lo (before ++ one ∷ next ∷ behind) ≡ true → past one < next .start
+
+-- So a state in which a command has two records that touch does not hold together.
 abbrev pub TouchingBroken : Type 0
 TouchingBroken =
     (s : State) (c : ℕ) (before : List Record) (one next : Record) (behind : List Record)
@@ -38,3 +44,10 @@ abbrev pub JoinedRuns : Type 0
 JoinedRuns =
     (rs : List Record) (a n : ℕ) → ascending 0 rs ≡ true → a + n ≤ windowLimit
     → joined rs a n ≡ runs (λ x. held rs x || inSpan a n x)
+
+-- F-1: a span from the end of one record to the start of the next touches both, and makes one record of the two; the others stay.
+abbrev pub GapFilled : Type 0
+GapFilled =
+    (before : List Record) (one next : Record) (behind : List Record) (n : ℕ)
+    → ascending 0 (before ++ one ∷ next ∷ behind) ≡ true → past one + n ≡ next .start
+    → joined (before ++ one ∷ next ∷ behind) (past one) n ≡ before ++ record { start = one .start; len = past next - one .start } ∷ behind
