@@ -1,5 +1,5 @@
 -- A span that fills the gap between two records makes one of them.
-use Prim.Native.Nat.{ℕ, zero, suc, _+_, _-_}
+use Prim.Native.Nat.{zero, suc, _+_, _-_}
 use native.Mathlib.Omega.{arith}
 use mathlib.Core.Path.{_≡_, ap, _∙_}
 use mathlib.Core.List.{List, [], _∷_, _++_, append-nil}
@@ -7,8 +7,7 @@ use mathlib.Core.Bool.{Bool, and-false, and-eq-true-iff}
 use lib.Dec.{ltb}
 use borrow.Author.Tests.{lt-leb}
 use Rattle.state.specs.declared.Record.{Record}
-use Rattle.state.specs.Records.{past, keep, meets, earlier, later, lowest, highest, union, joined}
-use Rattle.state.specs.State.{ascending}
+use Rattle.state.specs.Records.{past, keep, meets, earlier, later, lowest, highest, joined}
 use Rattle.state.specs.Claims.{GapFilled}
 use Rattle.state.proofs.Cases.{leb-iff, not-leb-iff, ascends, back-ascends}
 use Rattle.state.proofs.Apart.{records-apart}

@@ -7,7 +7,7 @@ use mathlib.Core.Bool.{Bool, true, false}
 use Rattle.state.specs.declared.Record.{Record}
 use Rattle.state.specs.Records.{past, keep}
 use Rattle.state.specs.State.{ascending}
-use Rattle.state.proofs.Cases.{Ascends, ascends}
+use Rattle.state.proofs.Cases.{ascends}
 use Rattle.state.proofs.Places.{middle-above}
 
 module _ (p : Record → Bool) where

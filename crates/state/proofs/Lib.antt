@@ -4,6 +4,7 @@ pub mod Cases
 pub mod Places
 pub mod Keep
 pub mod Bridge
+pub mod Parts
 pub mod Merge
 pub mod Laws
 pub mod Commands

@@ -3,15 +3,15 @@
 use Prim.Native.Nat.{ℕ, zero, suc, _+_, _≤_, _<_}
 use native.Mathlib.Omega.{arith}
 use mathlib.Core.Path.{_≡_, refl, ap, sym, _∙_}
-use mathlib.Core.List.{List, [], _∷_, _++_}
-use mathlib.Core.Bool.{Bool, true, false, false≢true, cond, _&&_, _||_, and-false, or-true}
-use lib.Dec.{ltb, leb, eqb}
+use mathlib.Core.List.{List, [], _∷_}
+use mathlib.Core.Bool.{Bool, true, false, cond, _||_, and-false, or-true}
+use lib.Dec.{ltb, eqb}
 use borrow.Author.Tests.{ltb-true, ltb-false, le-leb, lt-leb, lt-ltb, le-ltb, eqb-true, eqb-false, eq-eqb, ne-eqb}
 use Rattle.state.specs.declared.Record.{Record}
 use Rattle.state.specs.Records.{past, inSpan, held, shares, touches, meets, joined}
-use Rattle.state.specs.State.{ascending, holds}
-use Rattle.state.specs.Runs.{inFront, runsFrom, runs}
-use Rattle.state.specs.Claims.{MeetsWords, AreRuns, RunsAreRuns, RecordsRuns, JoinedRuns}
+use Rattle.state.specs.State.{ascending}
+use Rattle.state.specs.Runs.{inFront, runsFrom}
+use Rattle.state.specs.Claims.{MeetsWords, RunsAreRuns, RecordsRuns, JoinedRuns}
 use Rattle.state.proofs.Cases.{Side, before, meets as met, after, side, Ascends, ascends, ascending-cons, ascending-from, ascending-lower, inside, below}
 use Rattle.state.proofs.Cases.{above}
 use Rattle.state.proofs.Places.{held-low}
