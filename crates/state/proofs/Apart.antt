@@ -1,12 +1,10 @@
--- Records that keep to the rules lie apart, and touching records break a state.
+-- Records that keep to the rules lie apart. This rests on the rules alone.
 use native.Mathlib.Omega.{arith}
-use mathlib.Core.Path.{_≡_, refl, ap, sym, _∙_}
-use mathlib.Core.List.{[], _∷_, _++_}
-use mathlib.Core.Bool.{Bool, true, false, and-eq-true-iff}
+use mathlib.Core.List.{[], _∷_}
+use mathlib.Core.Bool.{and-eq-true-iff}
 use borrow.Author.Tests.{leb-true}
-use Rattle.state.specs.State.{ascending, holds}
-use Rattle.state.specs.Claims.{RecordsApart, TouchingBroken}
-use Rattle.state.proofs.Commands.{kept}
+use Rattle.state.specs.State.{ascending}
+use Rattle.state.specs.Claims.{RecordsApart}
 
 pub records-apart : RecordsApart
 unfolding ascending
@@ -17,12 +15,3 @@ records-apart lo [] one next behind up =
 records-apart lo (r ∷ before) one next behind up =
     let h = simp and-eq-true-iff at up in
     records-apart _ before one next behind (h .1)
-
-pub touching-broken : TouchingBroken
-touching-broken s c before one next behind is touch = go (holds s) refl
-  where
-    go : (b : Bool) → holds s ≡ b → b ≡ false
-    go false h = refl
-    go true h =
-        let up : ascending 0 (before ++ one ∷ next ∷ behind) ≡ true = sym (ap (ascending 0) is) ∙ kept s c h .up in
-        absurd (omega (arith, records-apart 0 before one next behind up))

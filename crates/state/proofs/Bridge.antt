@@ -7,7 +7,7 @@ use mathlib.Core.Bool.{Bool, and-false, and-eq-true-iff}
 use lib.Dec.{ltb}
 use borrow.Author.Tests.{lt-leb}
 use Rattle.state.specs.declared.Record.{Record}
-use Rattle.state.specs.Records.{past, keep, meets, earlier, later, lowest, highest, joined}
+use Rattle.state.specs.Records.{past, keep, meets, earlier, later, lowest, highest, union, joined}
 use Rattle.state.specs.Claims.{GapFilled}
 use Rattle.state.proofs.Cases.{leb-iff, not-leb-iff, ascends, back-ascends}
 use Rattle.state.proofs.Apart.{records-apart}
@@ -27,7 +27,8 @@ gap-filled before one next behind (suc k) up fills =
     let front : earlier a rs ≡ before
     = keep-front ends 0 before one (next ∷ behind) up (λ r h. simp leb-iff (omega arith))
     ∙ ap (λ (l : List Record). before ++ l)
-    (keep-no ends one (next ∷ behind) (simp not-leb-iff (omega arith)) ∙ keep-none ends (suc a) (next ∷ behind) (u .rest) (λ r h. simp not-leb-iff (omega arith)))
+    (keep-no ends one (next ∷ behind) (simp not-leb-iff (omega arith))
+    ∙ keep-none ends (suc a) (next ∷ behind) (u .rest) (λ r h. simp not-leb-iff (omega arith)))
     ∙ append-nil before in
     let two : keep (meets a n) rs ≡ one ∷ next ∷ []
     = drop-front (meets a n) 0 before one (next ∷ behind) up (λ r h. rw (lt-leb a (past r) (omega arith), and-false))
@@ -41,6 +42,6 @@ gap-filled before one next behind (suc k) up fills =
     ∙ keep-no starts one (next ∷ behind) (simp not-leb-iff (omega arith))
     ∙ keep-no starts next behind (simp not-leb-iff (omega arith))
     ∙ keep-all starts (suc (past next)) behind (v .rest) (λ r h. simp leb-iff (omega arith)) in
-    let low : lowest a (one ∷ next ∷ []) ≡ one .start = omega arith in
-    let size : highest (a + n) (one ∷ next ∷ []) - lowest a (one ∷ next ∷ []) ≡ past next - one .start = omega arith in
+    let low : union a n (one ∷ next ∷ []) .start ≡ one .start = omega arith in
+    let size : union a n (one ∷ next ∷ []) .len ≡ past next - one .start = omega arith in
     rw (front, two, back) (λ i. before ++ record { start = low i; len = size i } ∷ behind)

@@ -3,19 +3,21 @@
 use Prim.Native.Nat.{ℕ, zero, suc, _+_, _≤_, _<_}
 use native.Mathlib.Omega.{arith}
 use mathlib.Core.Path.{_≡_, refl, ap, sym, _∙_}
-use mathlib.Core.List.{List, [], _∷_}
+use mathlib.Core.List.{List, [], _∷_, _++_}
 use mathlib.Core.Bool.{Bool, true, false, cond, _||_, and-false, or-true}
-use lib.Dec.{ltb, eqb}
+use lib.Dec.{ltb, leb, eqb}
 use borrow.Author.Tests.{ltb-true, ltb-false, le-leb, lt-leb, lt-ltb, le-ltb, eqb-true, eqb-false, eq-eqb, ne-eqb}
 use Rattle.state.specs.declared.Record.{Record}
 use Rattle.state.specs.Records.{past, inSpan, held, shares, touches, meets, joined}
-use Rattle.state.specs.State.{ascending}
+use Rattle.state.specs.State.{ascending, holds}
 use Rattle.state.specs.Runs.{inFront, runsFrom}
-use Rattle.state.specs.Claims.{MeetsWords, RunsAreRuns, RecordsRuns, JoinedRuns}
-use Rattle.state.proofs.Cases.{Side, before, meets as met, after, side, Ascends, ascends, ascending-cons, ascending-from, ascending-lower, inside, below}
-use Rattle.state.proofs.Cases.{above}
+use Rattle.state.specs.Claims.{MeetsWords, TouchingBroken, RunsAreRuns, RecordsRuns, JoinedRuns}
+use Rattle.state.proofs.Apart.{records-apart}
+use Rattle.state.proofs.Cases.{Side, before, meets as met, after, side, Ascends, ascends}
+use Rattle.state.proofs.Cases.{ascending-cons, ascending-from, ascending-lower, inside, below, above}
 use Rattle.state.proofs.Places.{held-low}
 use Rattle.state.proofs.Laws.{held-joined, ascending-joined}
+use Rattle.state.proofs.Commands.{kept}
 
 pub meets-words : MeetsWords
 meets-words a n r = go (side a (a + n) r)
@@ -25,8 +27,8 @@ meets-words a n r = go (side a (a + n) r)
         rw (
           lt-leb a (past r) h,
           le-ltb a (past r) (omega arith),
-          and-false,
-          and-false,
+          and-false (leb (r .start) (a + n)),
+          and-false (ltb (r .start) (a + n)),
           ne-eqb (past r) a (omega arith),
           ne-eqb (r .start) (a + n) (omega arith),
         )
@@ -42,6 +44,17 @@ meets-words a n r = go (side a (a + n) r)
               lt-ltb (r .start) (a + n) (omega (arith, eqb-false (r .start) (a + n) q)),
               lt-ltb a (past r) (omega (arith, eqb-false (past r) a p)),
             )
+
+-- Records that touch do not ascend, so that no state that has them holds together.
+
+pub touching-broken : TouchingBroken
+touching-broken s c front one next behind is touch = go (holds s) refl
+  where
+    go : (b : Bool) → holds s ≡ b → b ≡ false
+    go false h = refl
+    go true h =
+        let up : ascending 0 (front ++ one ∷ next ∷ behind) ≡ true = sym (ap (ascending 0) is) ∙ kept s c h .up in
+        absurd (omega (arith, records-apart 0 front one next behind up))
 
 -- Runs of two tests
 
