@@ -9,11 +9,15 @@ use lib.ListN.{length, take, drop, getD}
 use Rattle.state.specs.declared.Record.{Record}
 use Rattle.state.specs.declared.Meeting.{Meeting}
 use Rattle.state.specs.Limits.{windowLimit}
-use Rattle.state.specs.Records.{past, inSpan, held, addresses, total, place, fresh, keep, shares, touches, meets, earlier, later}
-use Rattle.state.specs.Records.{lowest, highest, union, joined}
+use Rattle.state.specs.Records.{past, inSpan, held, addresses, total, place, fresh, replayed, keep, shares, touches}
+use Rattle.state.specs.Records.{meets, earlier, later, lowest, highest, union, joined}
 use Rattle.state.specs.State.{State, recordsOf, ascending, holds}
 use Rattle.state.specs.Runs.{runs}
 use Rattle.state.specs.Join.{meeting}
+
+-- The two counts of a span are told apart, each by its own addresses, and leave none out.
+abbrev pub CountsFill : Type 0
+CountsFill = (rs : List Record) (a n : ℕ) → fresh rs a n + replayed rs a n ≡ n
 
 -- 01's sharing of a byte: a record and a span, each of a byte or more, share one by the test exactly if some address lies in both.
 abbrev pub SharesByte : Type 0
