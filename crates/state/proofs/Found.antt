@@ -1,6 +1,6 @@
 -- What the search finds where the records ascend: a front that lies before the span, a middle that shares a byte with it or touches it,
 -- and a back that starts behind it, so that `joined` puts one record in the place of the middle.
-use Prim.Native.Nat.{ℕ, suc, _+_, _-_, _≤_, max}
+use Prim.Native.Nat.{ℕ, zero, suc, _+_, _-_, _≤_, max}
 use native.Mathlib.Omega.{arith}
 use mathlib.Core.Path.{_≡_, refl, ap, sym, _∙_}
 use mathlib.Core.List.{List, [], _∷_, _++_, append-assoc}
@@ -13,7 +13,7 @@ use Rattle.state.specs.Limits.{windowLimit}
 use Rattle.state.specs.Records.{past, total, fresh, keep, meets as meetsSpan, earlier, later, lowest, highest, joined}
 use Rattle.state.specs.State.{ascending}
 use Rattle.state.specs.Join.{moved, widened, searched, unmet, meeting}
-use Rattle.state.specs.Claims.{SearchFinds}
+use Rattle.state.specs.Claims.{SearchFinds, SearchJoins}
 use Rattle.state.proofs.Cases.{Side, before, meets, after, side, Ascends, ascends, ascending-from}
 use Rattle.state.proofs.Parts.{met, first-before, first-meets, all-behind, in-order}
 use Rattle.state.proofs.Merge.{between, lowest-min, highest-max, lowest-under, highest-over}
@@ -153,3 +153,7 @@ found rs a n up =
         total-append (take (m .first) rs) (between (m .low) (m .high) ∷ drop (m .last) rs),
       );
     }
+
+pub search-joins : SearchJoins
+search-joins rs a zero up some = absurd (omega arith)
+search-joins rs a (suc n) up some = let F = found rs a n up in (F .joins, F .counts)

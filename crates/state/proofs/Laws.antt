@@ -70,7 +70,8 @@ at-place f d lo (r ∷ rs) x up h = let u = ascends lo r rs up in go u (at-place
     go u ih (beneath k) = absurd (false≢true (sym (held-low (suc (past r)) rs x (u .rest) (omega arith)) ∙ rw (below r x k) at h))
 
 pub held-place : HeldPlace
-held-place rs x d up h = ap (λ (l : List ℕ). getD l (place rs x) d) (sym (map-id (addresses rs))) ∙ at-place (λ y. y) d 0 rs x up h
+held-place rs x d up h =
+    (place-below 0 rs x up h, ap (λ (l : List ℕ). getD l (place rs x) d) (sym (map-id (addresses rs))) ∙ at-place (λ y. y) d 0 rs x up h)
 
 -- two functions that agree at every held address make the same list
 pub map-held : (f g : ℕ → ℕ) (rs : List Record) → ((x : ℕ) → held rs x ≡ true → f x ≡ g x) → map f (addresses rs) ≡ map g (addresses rs)

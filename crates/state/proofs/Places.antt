@@ -10,7 +10,7 @@ use lib.Seq.{drop-cons}
 use Rattle.state.specs.declared.Record.{Record}
 use Rattle.state.specs.Records.{past, held, span, total, place, countFresh, fresh, countHeld}
 use Rattle.state.specs.State.{ascending}
-use Rattle.state.specs.Claims.{CountsFill}
+use Rattle.state.specs.Claims.{CountsFill, PlaceMiddle}
 use Rattle.state.proofs.Cases.{Lies, over, within, beneath, lies, Ascends, ascends, inside, below, above}
 
 -- behind a record all of it counts
@@ -134,9 +134,7 @@ middle-above lo (r ∷ xs) u ys up =
     let v = ascends lo r (xs ++ u ∷ ys) up in
     omega (arith, middle-above (suc (past r)) xs u ys (v .rest))
 
-pub place-middle :
-    (lo : ℕ) (xs : List Record) (u : Record) (ys : List Record) (x : ℕ) → ascending lo (xs ++ u ∷ ys) ≡ true → u .start ≤ x → x < past u
-    → place (xs ++ u ∷ ys) x ≡ total xs + (x - u .start)
+pub place-middle : PlaceMiddle
 unfolding place total
 place-middle lo [] u ys x up h k =
     let v = ascends lo u ys up in

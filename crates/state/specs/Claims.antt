@@ -13,7 +13,7 @@ use Rattle.state.specs.Records.{past, inSpan, held, addresses, total, pl
 use Rattle.state.specs.Records.{meets, earlier, later, lowest, highest, union, joined}
 use Rattle.state.specs.State.{State, recordsOf, ascending, holds}
 use Rattle.state.specs.Runs.{runs}
-use Rattle.state.specs.Join.{meeting}
+use Rattle.state.specs.Join.{meeting, replaced}
 
 -- The two counts of a span are told apart, each by its own addresses, and leave none out.
 abbrev pub CountsFill : Type 0
@@ -104,7 +104,23 @@ pub record Finds (rs : List Record) (a n : ℕ) (m : Meeting) : Type 0 where
 abbrev pub SearchFinds : Type 0
 SearchFinds = (rs : List Record) (a n : ℕ) → ascending 0 rs ≡ true → Finds rs a n (meeting rs a (a + n))
 
--- A held address stands at its place: of the addresses in the order in which their bytes are packed, it is the one at the number that `place`
--- gives. So a byte is read where it was put.
+-- And what it finds is what `joined` is made of: the union takes the place of the records that are met, and as many of the span's bytes are
+-- fresh as the union has more than they held.
+abbrev pub SearchJoins : Type 0
+SearchJoins =
+    (rs : List Record) (a n : ℕ) → ascending 0 rs ≡ true → 0 < n
+    → let m = meeting rs a (a + n) in (joined rs a n ≡ replaced rs m) × (fresh rs a n + m .held ≡ m .high - m .low)
+
+-- A held address has a place among the held bytes, and stands there: of the addresses in the order in which their bytes are packed, it is the
+-- one at the number that `place` gives. So a byte is read where it was put.
 abbrev pub HeldPlace : Type 0
-HeldPlace = (rs : List Record) (x d : ℕ) → ascending 0 rs ≡ true → held rs x ≡ true → getD (addresses rs) (place rs x) d ≡ x
+HeldPlace =
+    (rs : List Record) (x d : ℕ) → ascending 0 rs ≡ true → held rs x ≡ true
+    → (place rs x < total rs) × (getD (addresses rs) (place rs x) d ≡ x)
+
+-- That place is what the records before its own hold, and how far it lies from where its own starts.
+abbrev pub PlaceMiddle : Type 0
+PlaceMiddle =
+    (lo : ℕ) (before : List Record) (own : Record) (behind : List Record) (x : ℕ)
+    → ascending lo (before ++ own ∷ behind) ≡ true → own .start ≤ x → x < past own
+    → place (before ++ own ∷ behind) x ≡ total before + (x - own .start)
