@@ -1,4 +1,5 @@
--- Laws of tests and of lists: both of two tests, a test on every element, equal heads and tails, an element of two lists put together, as many elements as there are.
+-- Laws of tests and of lists: both of two tests, a test on every element, equal heads and tails, an element of two lists put together, as
+-- many elements as there are.
 use Prim.Native.Nat.{ℕ, zero, suc, _+_, min}
 use native.Mathlib.Nat.{zero-min, min-zero, suc-min-suc}
 use mathlib.Core.Path.{_≡_, refl, ap, subst}

@@ -19,7 +19,8 @@ pub overwrite-none : (buffer : List ℕ) (at : ℕ) → overwrite buffer at [] �
 overwrite-none buffer at = rw (append-nil, add-zero) (take-append-drop at buffer)
 
 -- bytes written right behind others are written with them
-pub overwrite-then : (buffer first second : List ℕ) (at : ℕ) → at ≤ length buffer → overwrite (overwrite buffer at first) (at + length first) second ≡ overwrite buffer at (first ++ second)
+pub overwrite-then : (buffer first second : List ℕ) (at : ℕ) → at ≤ length buffer
+    → overwrite (overwrite buffer at first) (at + length first) second ≡ overwrite buffer at (first ++ second)
 overwrite-then buffer first second at inside =
     let front : length (take at buffer ++ first) ≡ at + length first = simp (length-append, length-take-le at buffer inside) in
     let reach : at + length first + length second ≡ at + length (first ++ second) = omega (arith, length-append first second) in
@@ -31,11 +32,13 @@ overwrite-then buffer first second at inside =
     rw (take-at (take at buffer ++ first) (drop (at + length first) buffer) (at + length first) front, rest, append-assoc (take at buffer) first second)
 
 -- in a loop, a turn's store makes it a copy of one element more
-pub paste-more : {A : Type 0} (buffer source : List A) (i : ℕ) (d : A) → i < length buffer → i < length source → set (paste buffer 0 source i) i (getD source i d) ≡ paste buffer 0 source (i + 1)
+pub paste-more : {A : Type 0} (buffer source : List A) (i : ℕ) (d : A) → i < length buffer → i < length source
+    → set (paste buffer 0 source i) i (getD source i d) ≡ paste buffer 0 source (i + 1)
 paste-more buffer source i d room more =
     let room′ : 0 + i < length buffer = omega arith in
     rw add-one
-    (subst (λ (k : ℕ). set (paste buffer 0 source i) k (getD source i d) ≡ paste buffer 0 source (suc i)) (zero-add i) (paste-suc buffer 0 source i d room′ more))
+    (subst (λ (k : ℕ). set (paste buffer 0 source i) k (getD source i d) ≡ paste buffer 0 source (suc i)) (zero-add i)
+    (paste-suc buffer 0 source i d room′ more))
 
 module _ (buffer bytes : List ℕ) (at : ℕ) (fits : at + length bytes ≤ length buffer) where
   front : length (take at buffer) ≡ at
@@ -81,10 +84,16 @@ module _ (buffer bytes : List ℕ) (at : ℕ) (fits : at + length bytes ≤ leng
       sizes : length (part (overwrite buffer at bytes) from n) ≡ length (part buffer from n)
       sizes = simp (length-take, length-drop, length-overwrite)
 
-      alike : (i : ℕ) → i < length (part (overwrite buffer at bytes) from n) → getD (part (overwrite buffer at bytes) from n) i 0 ≡ getD (part buffer from n) i 0
+      alike : (i : ℕ) → i < length (part (overwrite buffer at bytes) from n)
+          → getD (part (overwrite buffer at bytes) from n) i 0 ≡ getD (part buffer from n) i 0
       alike i h =
           let near : i < n = omega (arith, length-take n (drop from (overwrite buffer at bytes))) in
-          rw (getD-take n (drop from (overwrite buffer at bytes)) i 0 near, getD-take n (drop from buffer) i 0 near, getD-drop from (overwrite buffer at bytes) i 0, getD-drop from buffer i 0)
+          rw (
+            getD-take n (drop from (overwrite buffer at bytes)) i 0 near,
+            getD-take n (drop from buffer) i 0 near,
+            getD-drop from (overwrite buffer at bytes) i 0,
+            getD-drop from buffer i 0,
+          )
           (same i near)
 
 -- bytes written to the front of a buffer
@@ -103,7 +112,14 @@ overwrite-paste buffer source at room = rw (take-min, ← length-take room sourc
 pub overwrite-lent : (buffer bytes : List ℕ) (at n : ℕ) → length bytes ≤ length (part buffer at n)
     → take at buffer ++ (overwrite (part buffer at n) 0 bytes ++ drop n (drop at buffer)) ≡ overwrite buffer at bytes
 overwrite-lent buffer bytes at n fits =
-    rw (zero-add, append-assoc bytes, ← drop-append-le (length bytes) (part buffer at n) (drop n (drop at buffer)) fits, take-append-drop, drop-drop, append-assoc)
+    rw (
+      zero-add,
+      append-assoc bytes,
+      ← drop-append-le (length bytes) (part buffer at n) (drop n (drop at buffer)) fits,
+      take-append-drop,
+      drop-drop,
+      append-assoc,
+    )
 
 -- for a loop from the top down: one more byte, just before those that are written
 pub overwrite-more : (buffer bytes : List ℕ) (at x : ℕ) → at < length buffer → set (overwrite buffer (suc at) bytes) at x ≡ overwrite buffer at (x ∷ bytes)
@@ -120,16 +136,20 @@ overwrite-mid buffer bytes at n size =
     ∙ ap (λ (l : List ℕ). take at buffer ++ bytes ++ l) (drop-drop n at buffer ∙ ap (λ (k : ℕ). drop (at + k) buffer) (sym size))
 
 -- bytes written just before those written last
-pub overwrite-on : (buffer b c : List ℕ) (at : ℕ) → at + length b + length c ≤ length buffer → overwrite (overwrite buffer (at + length b) c) at b ≡ overwrite buffer at (b ++ c)
+pub overwrite-on : (buffer b c : List ℕ) (at : ℕ) → at + length b + length c ≤ length buffer
+    → overwrite (overwrite buffer (at + length b) c) at b ≡ overwrite buffer at (b ++ c)
 overwrite-on buffer b c at fits =
     let up = at + length b in
     let rest = drop (up + length c) buffer in
     let pre : take at (overwrite buffer up c) ≡ take at buffer =
-    simp (append-assoc, take-add at (length b) buffer) (take-at (take at buffer) (take (length b) (drop at buffer) ++ (c ++ rest)) at (length-take-le at buffer (omega arith))) in
-    let post : drop up (overwrite buffer up c) ≡ c ++ rest = rw append-assoc (drop-at (take up buffer) (c ++ rest) up (length-take-le up buffer (omega arith))) in
+    simp (append-assoc, take-add at (length b) buffer)
+    (take-at (take at buffer) (take (length b) (drop at buffer) ++ (c ++ rest)) at (length-take-le at buffer (omega arith))) in
+    let post : drop up (overwrite buffer up c) ≡ c ++ rest
+    = rw append-assoc (drop-at (take up buffer) (c ++ rest) up (length-take-le up buffer (omega arith))) in
     let size : at + length (b ++ c) ≡ up + length c = omega (arith, length-append b c) in
     ap₂ (λ (x y : List ℕ). x ++ b ++ y) pre post ∙ simp (append-assoc, size)
 
 -- what stands before the bytes stays as it was, also a part of it
-pub part-before : (buffer bytes : List ℕ) (at from n : ℕ) → at + length bytes ≤ length buffer → from + n ≤ at → part (overwrite buffer at bytes) from n ≡ part buffer from n
+pub part-before : (buffer bytes : List ℕ) (at from n : ℕ) → at + length bytes ≤ length buffer → from + n ≤ at
+    → part (overwrite buffer at bytes) from n ≡ part buffer from n
 part-before buffer bytes at from n fits h = part-beside buffer bytes at fits from n (λ i k. overwrite-below buffer bytes at fits (from + i) 0 (omega arith))

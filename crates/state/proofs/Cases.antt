@@ -1,8 +1,9 @@
 -- Case analysis for the records: where a record stands to a span and to an address, and what an ascending list says of its first record.
 use Prim.Native.Nat.{ℕ, suc, _≤_, _<_}
 use mathlib.Core.Path.{_≡_, refl}
-use mathlib.Core.List.{List, [], _∷_}
+use mathlib.Core.List.{List, [], _∷_, _++_}
 use mathlib.Core.Bool.{Bool, true, false, and-eq-true-iff, and-false}
+use mathlib.Core.Logic.{_↔_}
 use native.Mathlib.Nat.{lt-of-not-le, not-le-of-lt}
 use native.Mathlib.Omega.{arith}
 use lib.Dec.{leb}
@@ -48,6 +49,13 @@ leb-same a b c d f g = go (leb c d) refl
     go true q = le-leb _ _ (g (leb-true _ _ q))
     go false q = lt-leb _ _ (lt-of-not-le (λ k. not-le-of-lt (leb-false _ _ q) (f k)))
 
+-- a test and the fact on numbers that it tells
+pub leb-iff : (a b : ℕ) → (leb a b ≡ true) ↔ (a ≤ b)
+leb-iff a b = (leb-true a b, le-leb a b)
+
+pub not-leb-iff : (a b : ℕ) → (leb a b ≡ false) ↔ (b < a)
+not-leb-iff a b = (leb-false a b, lt-leb a b)
+
 -- what an ascending list says of its first record and of the others
 pub record Ascends (lo : ℕ) (r : Record) (rs : List Record) : Type 0 where
   pub from : lo ≤ r .start
@@ -60,6 +68,11 @@ unfolding ascending
 ascends lo r rs up =
     let h = simp and-eq-true-iff at up in
     record { from = leb-true _ _ (h .0 .0 .0); some = ltb-true _ _ (h .0 .0 .1); fits = leb-true _ _ (h .0 .1); rest = h .1 }
+
+-- and of a record further back
+pub back-ascends : (lo : ℕ) (xs : List Record) (r : Record) (ys : List Record) → ascending lo (xs ++ r ∷ ys) ≡ true → Ascends (r .start) r ys
+back-ascends lo [] r ys up = let u = ascends lo r ys up in record { from = omega arith; some = u .some; fits = u .fits; rest = u .rest }
+back-ascends lo (t ∷ xs) r ys up = back-ascends (suc (past t)) xs r ys (ascends lo t (xs ++ r ∷ ys) up .rest)
 
 pub ascending-cons : {lo : ℕ} {r : Record} {rs : List Record} → Ascends lo r rs → ascending lo (r ∷ rs) ≡ true
 unfolding ascending

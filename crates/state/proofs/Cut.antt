@@ -14,8 +14,8 @@ use Rattle.state.specs.declared.Record.{Record}
 use Rattle.state.specs.declared.Meeting.{Meeting}
 use Rattle.state.specs.Records.{past, inSpan, held, total, place, highest, fresh}
 use Rattle.state.specs.State.{noRecord, ascending}
-use Rattle.state.specs.Cut.{Parted, Cut}
-use Rattle.state.proofs.Cases.{Ascends, ascends, ascending-from, ascending-lower, inside as within, above}
+use Rattle.state.specs.Cut.{Parted, PartedPlace, PartedFree, Cut}
+use Rattle.state.proofs.Cases.{Ascends, ascends, back-ascends, ascending-from, ascending-lower, inside as within, above}
 use Rattle.state.proofs.Merge.{between}
 use Rattle.state.proofs.Places.{place-all, place-low, held-low, fresh-place, place-middle, middle-above}
 use Rattle.state.proofs.Laws.{held-joined, ascending-joined, total-append}
@@ -84,18 +84,14 @@ starts-above lo (r ∷ rs) (suc i) up h =
     let u = ascends lo r rs up in
     omega (arith, starts-above (suc (past r)) rs i (u .rest) (omega arith))
 
-back-ascends : (lo : ℕ) (xs : List Record) (r : Record) (ys : List Record) → ascending lo (xs ++ r ∷ ys) ≡ true → Ascends (r .start) r ys
-back-ascends lo [] r ys up = let u = ascends lo r ys up in record { from = omega arith; some = u .some; fits = u .fits; rest = u .rest }
-back-ascends lo (t ∷ xs) r ys up = back-ascends (suc (past t)) xs r ys (ascends lo t (xs ++ r ∷ ys) up .rest)
-
 -- What an address that parts the records tells
 
 module _ (rs : List Record) (q x : ℕ) (P : Parted rs q x) where
   whole : take q rs ++ drop q rs ≡ rs
   whole = take-append-drop q rs
 
-  pub parted-place : place rs x ≡ total (take q rs)
-  parted-place =
+  place-parted : place rs x ≡ total (take q rs)
+  place-parted =
       ap (λ (l : List Record). place l x) (sym whole) ∙ place-append (take q rs) (drop q rs) x
       ∙ omega (arith, place-over 0 (take q rs) x (P .before), place-low x (drop q rs) x (P .behind) (omega arith))
 
@@ -106,8 +102,11 @@ module _ (rs : List Record) (q x : ℕ) (P : Parted rs q x) where
       subst (λ (j : ℕ). x ≤ getD rs j noRecord .start) e
       (subst (λ (r : Record). x ≤ r .start) (getD-drop q rs (i - q) noRecord) (starts-above x (drop q rs) (i - q) (P .behind) (simp length-drop (omega arith))))
 
+pub parted-place : PartedPlace
+parted-place rs q x P = place-parted rs q x P
+
 -- between two of them that part the records alike, nothing is held
-pub parted-free : (rs : List Record) (q lo hi : ℕ) → Parted rs q lo → Parted rs q hi → (x : ℕ) → lo ≤ x → x < hi → held rs x ≡ false
+pub parted-free : PartedFree
 parted-free rs q lo hi P R x h k =
     ap (λ (l : List Record). held l x) (sym (take-append-drop q rs))
     ∙ held-append (take q rs) (drop q rs) x (held-over 0 (take q rs) x (omega (arith, P .before))) ∙ held-low hi (drop q rs) x (R .behind) k

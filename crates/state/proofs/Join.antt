@@ -1,26 +1,23 @@
 -- What joining a span gives: the numbers by which 23 and 24 are judged and, where there is room, the records joined.
-use Prim.Native.Nat.{ℕ, zero, suc, _+_, _-_, _<_}
+use Prim.Native.Nat.{ℕ, zero, suc, _+_, _-_}
 use native.Mathlib.Omega.{arith}
-use mathlib.Core.Path.{_≡_, sym, subst}
-use mathlib.Core.Bool.{true}
-use lib.ListN.{length}
-use Rattle.state.specs.Limits.{recordLimit}
-use Rattle.state.specs.State.{CommandState, recordsIn, commandHolds}
+use mathlib.Core.Path.{sym, subst}
+use Rattle.state.specs.State.{recordsIn}
 use Rattle.state.specs.Cut.{Cut}
-use Rattle.state.specs.Join.{meeting, spliced, join, Room, Judged, Joined}
+use Rattle.state.specs.Join.{meeting, spliced, join, JoinJudged, JoinJoined}
 use Rattle.state.proofs.Found.{found}
 use Rattle.state.proofs.Cut.{cut-found}
 use Rattle.state.proofs.Entries.{fresh-found, count-found, spliced-joined, place-found}
 use Rattle.state.proofs.Commands.{kept-command}
 
-pub join-judged : (p : CommandState) (a n : ℕ) → 0 < n → commandHolds p ≡ true → Judged p a n (join p a (a + n))
+pub join-judged : JoinJudged
 unfolding join spliced
 join-judged p a zero some whole = absurd (omega arith)
 join-judged p a (suc n) some whole =
     let up = kept-command p whole .up in
     record { bytes = omega (arith, found (recordsIn p) a n up .held); fresh = fresh-found (recordsIn p) a n up; count = count-found (recordsIn p) a n up }
 
-pub join-joined : (p : CommandState) (a n : ℕ) → 0 < n → length (p .records) ≡ recordLimit → Room p a n → Joined p a n (join p a (a + n))
+pub join-joined : JoinJoined
 unfolding join
 join-joined p a zero some size R = absurd (omega arith)
 join-joined p a (suc n) some size R =

@@ -1,23 +1,23 @@
 -- Laws of the records, for the calls and for the claims over lists of calls.
 use Prim.Native.Nat.{ℕ, zero, suc, _+_, _-_, _≤_, _<_, min, max}
 use mathlib.Core.Path.{_≡_, refl, sym, ap, ap₂, _∙_}
-use mathlib.Core.List.{List, [], _∷_, _++_, map, map-append, append-assoc}
-use mathlib.Core.Bool.{Bool, true, false, _&&_, _||_, false≢true, or-true, or-false}
+use mathlib.Core.List.{List, [], _∷_, _++_, map, map-id, map-append, append-assoc}
+use mathlib.Core.Bool.{Bool, true, false, _&&_, false≢true, or-true, or-false, and-eq-true-iff}
 use native.Mathlib.Omega.{arith}
 use lib.Dec.{ltb, leb}
 use lib.ListN.{length, take, drop, getD, length-append}
 use lib.Seq.{take-add, drop-drop}
-use borrow.Author.Tests.{ltb-true, leb-true, leb-false, lt-ltb, le-ltb, le-leb}
-use Rattle.octets.proofs.Lists.{both, and-left, and-right}
+use borrow.Author.Tests.{leb-true, leb-false, le-ltb}
 use Rattle.state.specs.declared.Record.{Record}
 use Rattle.state.specs.Records.{past, inSpan, held, span, addresses, total, place, countFresh, fresh, shares, joined}
 use Rattle.state.specs.State.{ascending}
-use Rattle.state.proofs.Cases.{Lies, over, within, beneath, lies, Ascends, ascends, inside, below, above}
+use Rattle.state.specs.Claims.{SharesByte, HeldJoined, AscendingJoined, TotalJoined, HeldPlace}
+use Rattle.state.proofs.Cases.{leb-iff, Lies, over, within, beneath, lies, Ascends, ascends, inside, below, above}
 use Rattle.state.proofs.Merge.{merged, held-merged, ascending-merged, total-merged}
 use Rattle.state.proofs.Places.{place-all, place-low, held-low, place-grows, fresh-place, span-at, span-past, map-span, map-read, length-span}
 
 -- an address is held after a span is joined exactly if it was, or is in the span
-pub held-joined : (rs : List Record) (a n x : ℕ) → held (joined rs a n) x ≡ (held rs x || inSpan a n x)
+pub held-joined : HeldJoined
 unfolding joined merged
 held-joined rs a zero x = rw (go (leb a x) refl, or-false)
   where
@@ -27,13 +27,13 @@ held-joined rs a zero x = rw (go (leb a x) refl, or-false)
 held-joined rs a (suc n) x = held-merged a (a + suc n) (omega arith) rs a (a + suc n) x (omega arith) (omega arith)
 
 -- joined records ascend again
-pub ascending-joined : (rs : List Record) (a n : ℕ) → ascending 0 rs ≡ true → a + n ≤ 65536 → ascending 0 (joined rs a n) ≡ true
+pub ascending-joined : AscendingJoined
 unfolding joined merged
 ascending-joined rs a zero up fits = up
 ascending-joined rs a (suc n) up fits = ascending-merged a (a + suc n) (omega arith) 0 0 rs a (a + suc n) up (omega arith) (omega arith) (omega arith) fits
 
 -- what is held grows by what was fresh
-pub total-joined : (rs : List Record) (a n : ℕ) → ascending 0 rs ≡ true → total (joined rs a n) ≡ total rs + fresh rs a n
+pub total-joined : TotalJoined
 unfolding joined merged
 total-joined rs a zero up = unfold span countFresh in omega arith
 total-joined rs a (suc n) up =
@@ -68,6 +68,10 @@ at-place f d lo (r ∷ rs) x up h = let u = ascends lo r rs up in go u (at-place
         let e : min (r .len) (x - r .start) + place rs x ≡ x - r .start = omega (arith, place-low (suc (past r)) rs x (u .rest) (omega arith)) in
         rw e (span-at f d _ _ _ _ (omega arith) ∙ ap f (omega arith))
     go u ih (beneath k) = absurd (false≢true (sym (held-low (suc (past r)) rs x (u .rest) (omega arith)) ∙ rw (below r x k) at h))
+
+pub held-place : HeldPlace
+held-place rs x d up h =
+    (place-below 0 rs x up h, ap (λ (l : List ℕ). getD l (place rs x) d) (sym (map-id (addresses rs))) ∙ at-place (λ y. y) d 0 rs x up h)
 
 -- two functions that agree at every held address make the same list
 pub map-held : (f g : ℕ → ℕ) (rs : List Record) → ((x : ℕ) → held rs x ≡ true → f x ≡ g x) → map f (addresses rs) ≡ map g (addresses rs)
@@ -123,21 +127,17 @@ packed-back l k lo (r ∷ rs) up fits =
     later-place : Ascends lo r rs → (x : ℕ) → held rs x ≡ true → k + (min (r .len) (x - r .start) + place rs x) ≡ k + r .len + place rs x
     later-place u x h = omega (arith, held-above (suc (past r)) rs x (u .rest) h)
 
--- Two spans share a byte exactly if `shares` says so.
-pub shares-some :
-    (a n : ℕ) (r : Record) → 0 < n → 0 < r .len → shares a n r ≡ true → (x : ℕ) × (inSpan (r .start) (r .len) x ≡ true) × (inSpan a n x ≡ true)
-shares-some a n r some full h =
-    let below = ltb-true (r .start) (a + n) (and-left (ltb (r .start) (a + n)) (ltb a (past r)) h) in
-    let above = ltb-true a (past r) (and-right (ltb (r .start) (a + n)) (ltb a (past r)) h) in (
-      max a (r .start),
-      both (le-leb (r .start) (max a (r .start)) (omega arith)) (lt-ltb (max a (r .start)) (past r) (omega arith)),
-      both (le-leb a (max a (r .start)) (omega arith)) (lt-ltb (max a (r .start)) (a + n) (omega arith)),
-    )
+-- Two spans share a byte exactly if `shares` says so: the higher of their starts is then in both.
+pub shares-byte : SharesByte
+shares-byte a n r some full = (one, any)
+  where
+    one : shares a n r ≡ true → (x : ℕ) × (inSpan (r .start) (r .len) x ≡ true) × (inSpan a n x ≡ true)
+    one h =
+        let m = simp (and-eq-true-iff, leb-iff) at h in
+        (max a (r .start), simp (and-eq-true-iff, leb-iff) (omega arith, omega arith), simp (and-eq-true-iff, leb-iff) (omega arith, omega arith))
 
-pub shares-any : (a n : ℕ) (r : Record) (x : ℕ) → inSpan (r .start) (r .len) x ≡ true → inSpan a n x ≡ true → shares a n r ≡ true
-shares-any a n r x h k =
-    let from = leb-true (r .start) x (and-left (leb (r .start) x) (ltb x (past r)) h) in
-    let to = ltb-true x (past r) (and-right (leb (r .start) x) (ltb x (past r)) h) in
-    let low = leb-true a x (and-left (leb a x) (ltb x (a + n)) k) in
-    let high = ltb-true x (a + n) (and-right (leb a x) (ltb x (a + n)) k) in
-    both (lt-ltb (r .start) (a + n) (omega arith)) (lt-ltb a (past r) (omega arith))
+    any : (x : ℕ) × (inSpan (r .start) (r .len) x ≡ true) × (inSpan a n x ≡ true) → shares a n r ≡ true
+    any (x, h, k) =
+        let i = simp (and-eq-true-iff, leb-iff) at h in
+        let j = simp (and-eq-true-iff, leb-iff) at k in
+        simp (and-eq-true-iff, leb-iff) (omega arith, omega arith)

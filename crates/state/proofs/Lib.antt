@@ -1,6 +1,10 @@
 pub mod Worked
+pub mod Apart
 pub mod Cases
 pub mod Places
+pub mod Keep
+pub mod Bridge
+pub mod Parts
 pub mod Merge
 pub mod Laws
 pub mod Commands

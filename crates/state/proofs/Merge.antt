@@ -1,40 +1,50 @@
 -- The records after a span is joined, with the reach of the union as two numbers that grow from record to record.
 use Prim.Native.Nat.{ℕ, suc, _+_, _-_, _≤_, _<_, min, max}
-use mathlib.Core.Path.{_≡_, refl}
+use mathlib.Core.Path.{_≡_, refl, ap, _∙_}
 use mathlib.Core.List.{List, [], _∷_, _++_}
-use mathlib.Core.Bool.{Bool, true, false, _&&_, _||_, and-false, or-assoc, or-false}
+use mathlib.Core.Bool.{Bool, true, false, cond, _&&_, _||_, or-assoc, or-false, and-eq-true-iff}
 use native.Mathlib.Omega.{arith}
 use lib.Dec.{ltb, leb}
-use borrow.Author.Tests.{lt-ltb, le-ltb, le-leb, lt-leb}
+use borrow.Author.Tests.{lt-ltb, le-leb}
 use Rattle.octets.proofs.Lists.{both}
 use Rattle.state.specs.declared.Record.{Record}
-use Rattle.state.specs.Records.{past, inSpan, held, total, place, keep, earlier, later, lowest, highest}
+use Rattle.state.specs.Records.{past, inSpan, held, total, place, keep, meets as meetsSpan, earlier, later, lowest, highest}
 use Rattle.state.specs.State.{ascending}
+use Rattle.state.specs.Claims.{UnionCovers}
 use Rattle.state.proofs.Cases.{Side, before, meets, after, side, Lies, over, within, beneath, lies, Ascends, ascends, ascending-cons, ascending-from}
-use Rattle.state.proofs.Cases.{leb-same, inside, below, above}
+use Rattle.state.proofs.Cases.{leb-same, leb-iff, inside, below, above}
+use Rattle.state.proofs.Parts.{met, first-before, first-meets, first-behind, all-behind}
 use Rattle.state.proofs.Places.{place-all, place-none, place-low, place-max}
 
 -- the record from l to h
 abbrev pub between : ℕ → ℕ → Record
 between l h = record { start = l; len = h - l }
 
-abbrev pub met : ℕ → ℕ → List Record → List Record
-met a e = keep (λ r. leb (r .start) e && leb a (past r))
-
 -- the records with the span from a to e joined, where the union so far reaches from l to h: `joined` is the case l = a, h = e
 unfoldable pub merged : ℕ → ℕ → List Record → ℕ → ℕ → List Record
 merged a e rs l h = earlier a rs ++ between (lowest l (met a e rs)) (highest h (met a e rs)) ∷ later e rs
 
 -- a bound that a first record widens
-lowest-min : (s l : ℕ) (rs : List Record) → lowest (min s l) rs ≡ min s (lowest l rs)
+pub lowest-min : (s l : ℕ) (rs : List Record) → lowest (min s l) rs ≡ min s (lowest l rs)
 unfolding lowest
 lowest-min s l [] = refl
 lowest-min s l (r ∷ rs) = omega (arith, lowest-min s l rs)
 
-highest-max : (p h : ℕ) (rs : List Record) → highest (max p h) rs ≡ max p (highest h rs)
+pub highest-max : (p h : ℕ) (rs : List Record) → highest (max p h) rs ≡ max p (highest h rs)
 unfolding highest
 highest-max p h [] = refl
 highest-max p h (r ∷ rs) = omega (arith, highest-max p h rs)
+
+-- the union covers the span
+pub lowest-under : (a : ℕ) (rs : List Record) → lowest a rs ≤ a
+unfolding lowest
+lowest-under a [] = omega arith
+lowest-under a (r ∷ rs) = omega (arith, lowest-under a rs)
+
+pub highest-over : (e : ℕ) (rs : List Record) → e ≤ highest e rs
+unfolding highest
+highest-over e [] = omega arith
+highest-over e (r ∷ rs) = omega (arith, highest-over e rs)
 
 or-left : (p q t : Bool) → (p || (q || t)) ≡ (q || (p || t))
 or-left true true t = refl
@@ -53,21 +63,6 @@ unfolding total
 total-middle [] u r ts = omega arith
 total-middle (t ∷ rs) u r ts = omega (arith, total-middle rs u r ts)
 
--- a test that every record of an ascending list passes, or none
-keep-all : (p : Record → Bool) (lo : ℕ) (rs : List Record) → ascending lo rs ≡ true → ((r : Record) → lo ≤ r .start → p r ≡ true) → keep p rs ≡ rs
-unfolding keep
-keep-all p lo [] up yes′ = refl
-keep-all p lo (r ∷ rs) up yes′ =
-    let u = ascends lo r rs up in
-    rw (yes′ r (u .from), keep-all p (suc (past r)) rs (u .rest) (λ t k. yes′ t (omega arith)))
-
-keep-none : (p : Record → Bool) (lo : ℕ) (rs : List Record) → ascending lo rs ≡ true → ((r : Record) → lo ≤ r .start → p r ≡ false) → keep p rs ≡ []
-unfolding keep
-keep-none p lo [] up no′ = refl
-keep-none p lo (r ∷ rs) up no′ =
-    let u = ascends lo r rs up in
-    rw (no′ r (u .from)) (keep-none p (suc (past r)) rs (u .rest) (λ t k. no′ t (omega arith)))
-
 -- an address is within the union of two that overlap exactly if it is in one of them
 within-hull : (r : Record) (l h x : ℕ) → r .start ≤ h → l ≤ past r
     → (leb (min (r .start) l) x && ltb x (max (past r) h)) ≡ (inSpan (r .start) (r .len) x || (leb l x && ltb x h))
@@ -79,6 +74,30 @@ within-hull r l h x j k = go (lies x r)
     go (within s t) = rw (inside r x (omega arith) t) (both (le-leb (min (r .start) l) x (omega arith)) (lt-ltb x (max (past r) h) (omega arith)))
     go (beneath t) =
         rw (below r x t, leb-same (min (r .start) l) x l x (omega arith) (omega arith), leb-same (suc x) (max (past r) h) (suc x) h (omega arith) (omega arith))
+
+-- the union of a span and the records that it meets covers these addresses, and no other
+hull-covers : (a n x : ℕ) (rs : List Record)
+    → (leb (lowest a (keep (meetsSpan a n) rs)) x && ltb x (highest (a + n) (keep (meetsSpan a n) rs)))
+    ≡ (inSpan a n x || held (keep (meetsSpan a n) rs) x)
+unfolding keep lowest highest held
+hull-covers a n x [] = rw or-false
+hull-covers a n x (r ∷ rs) = go (keep (meetsSpan a n) rs) (meetsSpan a n r) refl (hull-covers a n x rs)
+  where
+    go : (rest : List Record) (b : Bool) → meetsSpan a n r ≡ b → (leb (lowest a rest) x && ltb x (highest (a + n) rest)) ≡ (inSpan a n x || held rest x)
+        → (leb (lowest a (cond b (r ∷ rest) rest)) x && ltb x (highest (a + n) (cond b (r ∷ rest) rest)))
+        ≡ (inSpan a n x || held (cond b (r ∷ rest) rest) x)
+    go rest true e ih =
+        let m = simp (and-eq-true-iff, leb-iff) at e in
+        within-hull r (lowest a rest) (highest (a + n) rest) x (omega (arith, highest-over (a + n) rest)) (omega (arith, lowest-under a rest))
+        ∙ ap (λ (b : Bool). inSpan (r .start) (r .len) x || b) ih ∙ or-left (inSpan (r .start) (r .len) x) (inSpan a n x) (held rest x)
+    go rest false e ih = ih
+
+pub union-covers : UnionCovers
+union-covers rs a n x =
+    let met = keep (meetsSpan a n) rs in
+    let size : lowest a met + (highest (a + n) met - lowest a met) ≡ highest (a + n) met
+    = omega (arith, lowest-under a met, highest-over (a + n) met) in
+    rw size (hull-covers a n x rs)
 
 -- the union's length is what both have, less what they share
 overlap : (r : Record) (l h : ℕ) → r .start ≤ h → l ≤ past r → l ≤ h
@@ -100,29 +119,26 @@ module _ (a e : ℕ) (wide : a < e) where
   merged-nil l h = refl
 
   pub merged-before : (r : Record) (rs : List Record) (l h : ℕ) → past r < a → merged a e (r ∷ rs) l h ≡ r ∷ merged a e rs l h
-  unfolding merged keep
-  merged-before r rs l h k = rw (lt-ltb (past r) a k, lt-leb a (past r) k, and-false, le-ltb e (r .start) (omega arith))
+  unfolding merged
+  merged-before r rs l h k = let P = first-before a e (omega arith) r rs k in rw (P .before, P .meeting, P .behind)
 
   pub merged-meets : (r : Record) (rs : List Record) (l h : ℕ) → r .start ≤ e → a ≤ past r
       → merged a e (r ∷ rs) l h ≡ merged a e rs (min (r .start) l) (max (past r) h)
-  unfolding merged keep lowest highest
-  merged-meets r rs l h j k = rw (le-ltb (past r) a k, le-leb (r .start) e j, le-leb a (past r) k, le-ltb e (r .start) j, lowest-min, highest-max)
+  unfolding merged lowest highest
+  merged-meets r rs l h j k =
+      let P = first-meets a e (omega arith) r rs j k in
+      rw (P .before, P .meeting, P .behind, lowest-min, highest-max)
 
   -- a record after the span stays, behind the union
   merged-after : (r : Record) (rs : List Record) (l h : ℕ) → e < r .start
       → merged a e (r ∷ rs) l h ≡ earlier a rs ++ between (lowest l (met a e rs)) (highest h (met a e rs)) ∷ r ∷ later e rs
-  unfolding merged keep
-  merged-after r rs l h k = rw (le-ltb (past r) a (omega arith), lt-leb (r .start) e k, lt-ltb e (r .start) k)
+  unfolding merged
+  merged-after r rs l h k = let P = first-behind a e (omega arith) r rs k in rw (P .before, P .meeting, P .behind)
 
   -- where the records begin after the span, all of them do
   pub merged-past : (lo : ℕ) (rs : List Record) (l h : ℕ) → ascending lo rs ≡ true → e < lo → merged a e rs l h ≡ between l h ∷ rs
   unfolding merged lowest highest
-  merged-past lo rs l h up k =
-      rw (
-        keep-none (λ r. ltb (past r) a) lo rs up (λ r j. le-ltb (past r) a (omega arith)),
-        keep-none (λ r. leb (r .start) e && leb a (past r)) lo rs up (λ r j. rw (lt-leb (r .start) e (omega arith))),
-        keep-all (λ r. ltb e (r .start)) lo rs up (λ r j. lt-ltb e (r .start) (omega arith)),
-      )
+  merged-past lo rs l h up k = let P = all-behind a e (omega arith) lo rs up k in rw (P .before, P .meeting, P .behind)
 
   pub held-merged : (rs : List Record) (l h x : ℕ) → l ≤ a → e ≤ h → held (merged a e rs l h) x ≡ (held rs x || (leb l x && ltb x h))
   unfolding held

@@ -8,17 +8,13 @@ use mathlib.Core.Bool.{true}
 use lib.ListN.{length, take, drop, getD, length-map, length-drop, take-append-drop}
 use lib.Seq.{take-at, drop-at, take-add, length-take-le}
 use Rattle.state.specs.declared.Record.{Record}
-use Rattle.state.specs.declared.Meeting.{Meeting}
 use Rattle.state.specs.Records.{held, span, addresses, total, place}
 use Rattle.state.specs.State.{ascending}
-use Rattle.state.specs.Join.{replaced}
+use Rattle.state.specs.Join.{PackedReplaced, PackedFront, PackedBackFrom}
 use Rattle.state.proofs.Laws.{length-addresses, map-held, packed-back, addresses-append, total-append}
 
 -- the bytes of the joined records: before the union, within it, and behind it
-pub packed-replaced :
-    (f : ℕ → ℕ) (rs : List Record) (m : Meeting)
-    → map f (addresses (replaced rs m))
-    ≡ map f (addresses (take (m .first) rs)) ++ (map f (span (m .low) (m .high - m .low)) ++ map f (addresses (drop (m .last) rs)))
+pub packed-replaced : PackedReplaced
 unfolding addresses
 packed-replaced f rs m =
     let front = addresses (take (m .first) rs) in
@@ -55,13 +51,19 @@ module _ (f : ℕ → ℕ) (l : List ℕ) (k : ℕ) (rs : List Record) (up : asc
     part-size = length-take-le (total front) (drop k l) (simp length-drop (omega (arith, totals)))
 
     -- those of the first i records
-    pub packed-front : map f (addresses front) ≡ take (total front) (drop k l)
-    packed-front =
+    front-packed : map f (addresses front) ≡ take (total front) (drop k l)
+    front-packed =
         sym (take-at (map f (addresses front)) (map f (addresses back)) (total front) front-size)
         ∙ ap (take (total front)) halves ∙ take-at (take (total front) (drop k l)) _ (total front) part-size
 
     -- those of the others
-    pub packed-back-from : map f (addresses back) ≡ take (total back) (drop (total front) (drop k l))
-    packed-back-from =
+    back-packed : map f (addresses back) ≡ take (total back) (drop (total front) (drop k l))
+    back-packed =
         sym (drop-at (map f (addresses front)) (map f (addresses back)) (total front) front-size)
         ∙ ap (drop (total front)) halves ∙ drop-at (take (total front) (drop k l)) _ (total front) part-size
+
+pub packed-front : PackedFront
+packed-front f l k rs up fits same i = front-packed f l k rs up fits same i
+
+pub packed-back-from : PackedBackFrom
+packed-back-from f l k rs up fits same i = back-packed f l k rs up fits same i

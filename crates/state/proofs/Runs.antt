@@ -4,17 +4,19 @@ use Prim.Native.Nat.{ℕ, zero, suc, _+_, _≤_, _<_}
 use native.Mathlib.Omega.{arith}
 use mathlib.Core.Path.{_≡_, refl, ap, sym, _∙_}
 use mathlib.Core.List.{List, [], _∷_, _++_}
-use mathlib.Core.Bool.{Bool, true, false, false≢true, cond, _&&_, _||_, and-false, or-true}
+use mathlib.Core.Bool.{Bool, true, false, cond, _||_, and-false, or-true}
 use lib.Dec.{ltb, leb, eqb}
 use borrow.Author.Tests.{ltb-true, ltb-false, le-leb, lt-leb, lt-ltb, le-ltb, eqb-true, eqb-false, eq-eqb, ne-eqb}
 use Rattle.state.specs.declared.Record.{Record}
-use Rattle.state.specs.Records.{past, inSpan, held, shares, touches, meets}
+use Rattle.state.specs.Records.{past, inSpan, held, shares, touches, meets, joined}
 use Rattle.state.specs.State.{ascending, holds}
-use Rattle.state.specs.Runs.{inFront, runsFrom, runs}
-use Rattle.state.specs.Claims.{MeetsWords, AreRuns, RunsAreRuns, TouchingBroken, RecordsRuns}
-use Rattle.state.proofs.Cases.{Side, before, meets as met, after, side, Ascends, ascends, ascending-cons, ascending-from, ascending-lower, inside, below}
-use Rattle.state.proofs.Cases.{above}
+use Rattle.state.specs.Runs.{inFront, runsFrom}
+use Rattle.state.specs.Claims.{MeetsWords, TouchingBroken, RunsAreRuns, RecordsRuns, JoinedRuns}
+use Rattle.state.proofs.Apart.{records-apart}
+use Rattle.state.proofs.Cases.{Side, before, meets as met, after, side, Ascends, ascends}
+use Rattle.state.proofs.Cases.{ascending-cons, ascending-from, ascending-lower, inside, below, above}
 use Rattle.state.proofs.Places.{held-low}
+use Rattle.state.proofs.Laws.{held-joined, ascending-joined}
 use Rattle.state.proofs.Commands.{kept}
 
 pub meets-words : MeetsWords
@@ -25,8 +27,8 @@ meets-words a n r = go (side a (a + n) r)
         rw (
           lt-leb a (past r) h,
           le-ltb a (past r) (omega arith),
-          and-false,
-          and-false,
+          and-false (leb (r .start) (a + n)),
+          and-false (ltb (r .start) (a + n)),
           ne-eqb (past r) a (omega arith),
           ne-eqb (r .start) (a + n) (omega arith),
         )
@@ -43,13 +45,7 @@ meets-words a n r = go (side a (a + n) r)
               lt-ltb a (past r) (omega (arith, eqb-false (past r) a p)),
             )
 
--- Records that touch do not ascend, wherever they stand, so that no state that has them holds together.
-
-touching-not-up : (lo : ℕ) (front : List Record) (one next : Record) (behind : List Record) → past one ≡ next .start
-    → ascending lo (front ++ one ∷ next ∷ behind) ≡ false
-unfolding ascending
-touching-not-up lo [] one next behind touch = rw (lt-leb (suc (past one)) (next .start) (omega arith), and-false)
-touching-not-up lo (r ∷ front) one next behind touch = rw (touching-not-up (suc (past r)) front one next behind touch, and-false)
+-- Records that touch do not ascend, so that no state that has them holds together.
 
 pub touching-broken : TouchingBroken
 touching-broken s c front one next behind is touch = go (holds s) refl
@@ -58,7 +54,7 @@ touching-broken s c front one next behind is touch = go (holds s) refl
     go false h = refl
     go true h =
         let up : ascending 0 (front ++ one ∷ next ∷ behind) ≡ true = sym (ap (ascending 0) is) ∙ kept s c h .up in
-        absurd (false≢true (sym (touching-not-up 0 front one next behind touch) ∙ up))
+        absurd (omega (arith, records-apart 0 front one next behind up))
 
 -- Runs of two tests
 
@@ -144,6 +140,11 @@ runs-of (suc n) lo (r ∷ rs) e up = one-more n lo (λ ss h. runs-of n (suc lo) 
 
 pub records-runs : RecordsRuns
 records-runs rs up = sym (runs-of 65536 0 rs refl up)
+
+pub joined-runs : JoinedRuns
+joined-runs rs a n up fits =
+    records-runs (joined rs a n) (ascending-joined rs a n up fits)
+    ∙ runs-same (held (joined rs a n)) (λ x. held rs x || inSpan a n x) 0 65536 (λ x h. held-joined rs a n x)
 
 -- Runs of any test leave gaps
 

@@ -7,13 +7,21 @@ use mathlib.Core.Bool.{true, false}
 use lib.ListN.{length, take, drop}
 use Rattle.state.specs.declared.Record.{Record}
 use Rattle.state.specs.declared.Meeting.{Meeting}
-use Rattle.state.specs.Records.{held, total, highest}
+use Rattle.state.specs.Records.{held, total, place, highest}
 use Rattle.state.specs.State.{ascending}
 
 -- an address that lies across no record: the first q records end there or before, and the others start there or behind
 pub record Parted (rs : List Record) (q x : ℕ) : Type 0 where
   pub before : highest 0 (take q rs) ≤ x
   pub behind : ascending x (drop q rs) ≡ true
+
+-- Its place is what the records before it hold.
+abbrev pub PartedPlace : Type 0
+PartedPlace = (rs : List Record) (q x : ℕ) → Parted rs q x → place rs x ≡ total (take q rs)
+
+-- Between two such addresses that have the same records before them nothing is held.
+abbrev pub PartedFree : Type 0
+PartedFree = (rs : List Record) (q lo hi : ℕ) → Parted rs q lo → Parted rs q hi → (x : ℕ) → lo ≤ x → x < hi → held rs x ≡ false
 
 -- The joined record reaches from one such address to another. All records that lie between them are met, and what is not held
 -- between them lies in the span from a up to e.

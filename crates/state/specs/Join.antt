@@ -1,7 +1,7 @@
 -- The search for the records that meet a span, and the records that it leaves, as the code computes them. The laws in proofs/ say
 -- what they are for records that ascend: the search finds just the records that share a byte with the span or touch it, and the rest
 -- is `joined`.
-use Prim.Native.Nat.{ℕ, suc, _+_, _-_, _%_, _≤_, min, max}
+use Prim.Native.Nat.{ℕ, suc, _+_, _-_, _%_, _≤_, _<_, min, max}
 use mathlib.Core.Path.{_≡_}
 use mathlib.Core.List.{List, [], _∷_, _++_, map}
 use mathlib.Core.Bool.{true, false, cond}
@@ -10,8 +10,8 @@ use lib.ListN.{length, take, drop, getD}
 use Rattle.state.specs.declared.Record.{Record}
 use Rattle.state.specs.declared.Meeting.{Meeting}
 use Rattle.state.specs.Limits.{recordLimit, heldLimit, windowLimit}
-use Rattle.state.specs.Records.{past, span, total, place, fresh, joined}
-use Rattle.state.specs.State.{CommandState, noRecord, open-with, recordsIn, commandHolds}
+use Rattle.state.specs.Records.{past, held, span, addresses, total, place, fresh, joined}
+use Rattle.state.specs.State.{CommandState, noRecord, open-with, recordsIn, ascending, commandHolds}
 use Rattle.state.specs.Cut.{Cut}
 
 -- a record that lies before the span, and one that meets it and widens the union
@@ -103,3 +103,33 @@ pub record Joined (p : CommandState) (a n : ℕ) (r : Join) : Type 0 where
   pub place : r .place ≡ place (joined (recordsIn p) a n) a
   pub cut : Cut (recordsIn p) (r .meeting) (r .fresh) a (a + n)
   pub replaces : joined (recordsIn p) a n ≡ replaced (recordsIn p) (r .meeting)
+
+-- What 23 and 24 are judged by is what 01 says, for every command that holds together and every span of a byte or more.
+abbrev pub JoinJudged : Type 0
+JoinJudged = (p : CommandState) (a n : ℕ) → 0 < n → commandHolds p ≡ true → Judged p a n (join p a (a + n))
+
+-- And where there is room, what join gives is the joining rule.
+abbrev pub JoinJoined : Type 0
+JoinJoined = (p : CommandState) (a n : ℕ) → 0 < n → length (p .records) ≡ recordLimit → Room p a n → Joined p a n (join p a (a + n))
+
+-- The packed bytes of the joined records, where f gives the byte of an address: those of the records before the union, then those of its own
+-- addresses, then those of the records behind it.
+abbrev pub PackedReplaced : Type 0
+PackedReplaced =
+    (f : ℕ → ℕ) (rs : List Record) (m : Meeting)
+    → map f (addresses (replaced rs m))
+    ≡ map f (addresses (take (m .first) rs)) ++ (map f (span (m .low) (m .high - m .low)) ++ map f (addresses (drop (m .last) rs)))
+
+-- Where a buffer has from k on the byte of each held address at its place, it has from k on the bytes of the first i records.
+abbrev pub PackedFront : Type 0
+PackedFront =
+    (f : ℕ → ℕ) (l : List ℕ) (k : ℕ) (rs : List Record)
+    → ascending 0 rs ≡ true → k + total rs ≤ length l → ((x : ℕ) → held rs x ≡ true → f x ≡ getD l (k + place rs x) 0)
+    → (i : ℕ) → map f (addresses (take i rs)) ≡ take (total (take i rs)) (drop k l)
+
+-- And right behind these it has the bytes of the others.
+abbrev pub PackedBackFrom : Type 0
+PackedBackFrom =
+    (f : ℕ → ℕ) (l : List ℕ) (k : ℕ) (rs : List Record)
+    → ascending 0 rs ≡ true → k + total rs ≤ length l → ((x : ℕ) → held rs x ≡ true → f x ≡ getD l (k + place rs x) 0)
+    → (i : ℕ) → map f (addresses (drop i rs)) ≡ take (total (drop i rs)) (drop (total (take i rs)) (drop k l))

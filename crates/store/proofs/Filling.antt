@@ -80,11 +80,16 @@ module _ (rs : List Record) (l : List ℕ) (base : ℕ) (w : List ℕ) where
     pub own : len ≤ old
     pub again :
         (b₁ b₂ : List ℕ)
-        → b₁ ≡ overwrite bytes (old + (gap - (top - (start + len)))) (take (length bytes - (old + (gap - (top - (start + len))))) (part w (start + len - base) (top - (start + len))))
-        → b₂ ≡ overwrite b₁ (old - len + (gap - (top - (start + len)))) (part b₁ (old - len) (min len (length b₁ - (old - len + (gap - (top - (start + len)))))))
+        → b₁
+        ≡ overwrite bytes (old + (gap - (top - (start + len))))
+        (take (length bytes - (old + (gap - (top - (start + len))))) (part w (start + len - base) (top - (start + len))))
+        → b₂
+        ≡ overwrite b₁ (old - len + (gap - (top - (start + len))))
+        (part b₁ (old - len) (min len (length b₁ - (old - len + (gap - (top - (start + len)))))))
         → Filling first last low high q (gap - (top - (start + len))) (old - len) start b₂
 
-module _ (rs : List Record) (l : List ℕ) (base : ℕ) (w : List ℕ) (m : Meeting) (fresh : ℕ) (C : Cut rs m fresh base (base + length w)) (room : total rs + fresh ≤ length l) where
+module _ (rs : List Record) (l : List ℕ) (base : ℕ) (w : List ℕ) (m : Meeting) (fresh : ℕ)
+    (C : Cut rs m fresh base (base + length w)) (room : total rs + fresh ≤ length l) where
   abbrev State : (k gap old top : ℕ) → List ℕ → Type 0
   State = Filling rs l base w (m .first) (m .last) (m .low) (m .high)
 
@@ -240,7 +245,8 @@ module _ (rs : List Record) (l : List ℕ) (base : ℕ) (w : List ℕ) (m : Meet
       record-done =
           let own-length : past r - r .start ≡ r .len = omega arith in
           let next : old + gap′ ≡ old′ + gap′ + (past r - r .start) = omega (arith, ends) in
-          more rs l base w (m .high) (old′ + gap′) (r .start) (past r) bytes₁ (part bytes₁ old′ (min (r .len) (length bytes₁ - (old′ + gap′)))) (omega arith) (omega (arith, turn-past, F .below))
+          more rs l base w (m .high) (old′ + gap′) (r .start) (past r) bytes₁ (part bytes₁ old′ (min (r .len) (length bytes₁ - (old′ + gap′))))
+          (omega arith) (omega (arith, turn-past, F .below))
           (rest-fits (old′ + gap′) (r .start) bytes₁ lower turn-low (omega (arith, turn-past, F .below)))
           (subst (λ (at : ℕ). Done rs l base w (m .high) at (past r) bytes₁) next stretch-done)
           (kept ∙ ap (λ (n : ℕ). map (seesIn rs l base w) (span (r .start) n)) (sym own-length))
@@ -269,7 +275,8 @@ module _ (rs : List Record) (l : List ℕ) (base : ℕ) (w : List ℕ) (m : Meet
             inside = inside-source;
             own = omega (arith, ends);
             again = λ b₁ b₂ e₁ e₂.
-                subst (State q gap′ old′ (r .start)) (sym (e₂ ∙ ap (λ (b : List ℕ). overwrite b (old′ + gap′) (part b old′ (min (r .len) (length b - (old′ + gap′))))) e₁)) turned;
+                subst (State q gap′ old′ (r .start))
+                (sym (e₂ ∙ ap (λ (b : List ℕ). overwrite b (old′ + gap′) (part b old′ (min (r .len) (length b - (old′ + gap′))))) e₁)) turned;
           }))
 
   -- no record more: the lowest stretch is all that is left
@@ -287,4 +294,6 @@ module _ (rs : List Record) (l : List ℕ) (base : ℕ) (w : List ℕ) (m : Meet
         ∙ ap (λ (at : ℕ). overwrite l at (map (seesIn rs l base w) (span (m .low) (m .high - m .low)))) place
 
   pub filled-size : length (filled rs m l base w) ≡ length l
-  filled-size = length-overwrite l (map (seesIn rs l base w) (span (m .low) (m .high - m .low))) (m .below) (map-fits (m .below) (m .low) l (omega arith) (omega arith) (C .wide))
+  filled-size =
+      length-overwrite l (map (seesIn rs l base w) (span (m .low) (m .high - m .low))) (m .below)
+      (map-fits (m .below) (m .low) l (omega arith) (omega arith) (C .wide))

@@ -26,7 +26,8 @@ front-same l bytes at h =
     let size : 0 + length (take at l ++ bytes) ≡ at + length bytes = omega (arith, length-append (take at l) bytes, length-take-le at l h) in
     rw size
 
-module _ (rs : List Record) (l : List ℕ) (base : ℕ) (w : List ℕ) (m : Meeting) (fresh behind : ℕ) (C : Cut rs m fresh base (base + length w)) (room : total rs + fresh ≤ length l) (is : behind ≡ total (drop (m .last) rs)) where
+module _ (rs : List Record) (l : List ℕ) (base : ℕ) (w : List ℕ) (m : Meeting) (fresh behind : ℕ)
+    (C : Cut rs m fresh base (base + length w)) (room : total rs + fresh ≤ length l) (is : behind ≡ total (drop (m .last) rs)) where
   totals : total rs ≡ m .below + m .held + behind
   totals =
       ap total (sym (take-append-drop (m .last) rs)) ∙ total-append (take (m .last) rs) (drop (m .last) rs)
@@ -61,7 +62,14 @@ module _ (rs : List Record) (l : List ℕ) (base : ℕ) (w : List ℕ) (m : Meet
       go true e =
           let here : _≡_ {A = ℕ} (cond (held rs x) 1 0) 1 = rw e in
           let under : place rs x < m .below + m .held =
-          omega (arith, place-suc 0 rs x (C .up), here, place-grows rs (suc x) (m .high) (omega (arith, C .wide)), parted-place rs (m .last) (m .high) (C .upper), C .bytes) in
+          omega (
+            arith,
+            place-suc 0 rs x (C .up),
+            here,
+            place-grows rs (suc x) (m .high) (omega (arith, C .wide)),
+            parted-place rs (m .last) (m .high) (C .upper),
+            C .bytes,
+          ) in
           overwrite-below l tail (m .below + m .held + fresh) (omega (arith, tail-size, totals)) (place rs x) 0 (omega arith)
       go false e = refl
 

@@ -29,7 +29,8 @@ same-length c = omega arith
 -- the buffer, once the part that was lent is back
 whole :
     (buffer source : List ℕ) (at room : ℕ) → room ≡ length buffer - at
-    → take at buffer ++ (overwrite (part buffer at room) 0 (take (length (part buffer at room)) source) ++ drop room (drop at buffer)) ≡ overwrite buffer at (take room source)
+    → take at buffer ++ (overwrite (part buffer at room) 0 (take (length (part buffer at room)) source) ++ drop room (drop at buffer))
+    ≡ overwrite buffer at (take room source)
 whole buffer source at room e =
     let size : length (part buffer at room) ≡ room = simp (length-take, length-drop) (omega arith) in
     rw size (overwrite-lent buffer (take room source) at room (rw size (omega (arith, length-take room source))))

@@ -107,7 +107,9 @@ loop-again : tie.Need-loop-again Inv-loop μ-loop
 loop-again c =
     let at-loop = c .before .before in
     let args = at-loop .before .before .before .before .before .before .args in
-    let stored = store (now (args .buffer)) (args .from) (args .from + args .by) (at-loop .loop .k) (at-loop .before .lesser .result) (omega arith) (omega arith) (omega arith) (omega arith) in
+    let stored
+    = store (now (args .buffer)) (args .from) (args .from + args .by) (at-loop .loop .k) (at-loop .before .lesser .result)
+    (omega arith) (omega arith) (omega arith) (omega arith) in
     (omega arith, rw (at-loop .loop .inv .1) stored, simp length-set (omega arith))
 
 same-length : tie.Need-same-length Inv-loop μ-loop

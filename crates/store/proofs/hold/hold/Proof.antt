@@ -18,7 +18,11 @@ add-move-up c =
     let e = c .before .before .before .before .before in
     let fits = e .pre .1 in
     let p = commandIn (now (e .args .words)) in
-    omega (arith, held-fits (recordsIn p) (now (e .args .part)) (e .args .base) (now (e .args .source)) (e .args .m) (e .args .fresh) (e .args .behind) (fits .cut) (fits .room) (e .pre .2))
+    omega (
+      arith,
+      held-fits (recordsIn p) (now (e .args .part)) (e .args .base) (now (e .args .source)) (e .args .m) (e .args .fresh)
+          (e .args .behind) (fits .cut) (fits .room) (e .pre .2),
+    )
 
 fill-requires : tie.Need-fill-requires
 fill-requires c κs =
@@ -27,7 +31,8 @@ fill-requires c κs =
     let fits = e .pre .1 in
     let p = commandIn (now (e .args .words)) in
     let size = ap length (moved .move-up .ensures)
-    ∙ moved-size (recordsIn p) (now (e .args .part)) (e .args .base) (now (e .args .source)) (e .args .m) (e .args .fresh) (e .args .behind) (fits .cut) (fits .room) (e .pre .2) in
+    ∙ moved-size (recordsIn p) (now (e .args .part)) (e .args .base) (now (e .args .source)) (e .args .m) (e .args .fresh)
+    (e .args .behind) (fits .cut) (fits .room) (e .pre .2) in
     (e .pre .0, subst (λ (n : ℕ). Fits p (e .args .m) (e .args .fresh) n (e .args .base) (length (now (e .args .source)))) (sym size) fits)
 
 returns : tie.Need-returns
@@ -38,7 +43,8 @@ returns c =
     let fits = e .pre .1 in
     let p = commandIn (now (e .args .words)) in
     done .fill .ensures ∙ ap (λ (l : List ℕ). filled (recordsIn p) (e .args .m) l (e .args .base) (now (e .args .source))) (moved .move-up .ensures)
-    ∙ repacked-filled (recordsIn p) (now (e .args .part)) (e .args .base) (now (e .args .source)) (e .args .m) (e .args .fresh) (e .args .behind) (fits .cut) (fits .room) (e .pre .2)
+    ∙ repacked-filled (recordsIn p) (now (e .args .part)) (e .args .base) (now (e .args .source)) (e .args .m) (e .args .fresh)
+    (e .args .behind) (fits .cut) (fits .room) (e .pre .2)
 
 pub hold-spec : {M : Type 1} → statement M
 hold-spec = tie.close (tie.spec add-move-up (λ c κs. search needs) fill-requires (λ c. search needs) returns)

@@ -24,7 +24,8 @@ returns c =
     let begun = copied .before .before .before in
     let e = begun .before .before .before in
     copied .copy-front .ensures
-    ∙ ap (overwrite (now (e .args .destination)) 0) (whole (now (e .args .destination)) (now (e .args .store)) (begun .start .result + e .args .place) (e .args .size) (omega arith))
+    ∙ ap (overwrite (now (e .args .destination)) 0)
+    (whole (now (e .args .destination)) (now (e .args .store)) (begun .start .result + e .args .place) (e .args .size) (omega arith))
     ∙ ap (λ (k : ℕ). overwrite (now (e .args .destination)) 0 (part (now (e .args .store)) (k + e .args .place) (e .args .size))) (begun .start .ensures .0)
 
 pub deliver-spec : {M : Type 1} → statement M
