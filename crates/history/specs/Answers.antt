@@ -1,0 +1,113 @@
+-- Every answer, told from the calls: what a call is owed is told from the events before it, from its numbers and from the lengths of what it
+-- is lent. No state, no record and no byte of the store enters, nor the answer that it was given. (01 is the agreed scope; docs/RULES.md
+-- has its rules.)
+use Prim.Native.Nat.{ℕ, suc, _+_, _-_, _<_, _≤_}
+use mathlib.Core.Path.{_≡_}
+use mathlib.Core.List.{List, [], _∷_, _++_}
+use mathlib.Core.Bool.{Bool, true, false, cond, not, _||_}
+use mathlib.Core.Logic.{_↔_}
+use lib.Dec.{ltb, leb, eqb}
+use lib.ListN.{length, getD}
+use Rattle.state.specs.declared.Record.{Record}
+use Rattle.state.specs.declared.refusal.Refusal.the-variants.{CommandNotOpen, CommandAlreadyOpen, TooManyBytes, TooManyRecords, NoSuchRecord}
+use Rattle.state.specs.Limits.{recordLimit, heldLimit, windowLimit}
+use Rattle.state.specs.Refusals.{number}
+use Rattle.state.specs.Records.{inSpan, span, total}
+use Rattle.state.specs.Runs.{runs}
+use Rattle.state.specs.State.{noRecord, recordsOf, isOpen}
+use Rattle.state.specs.Verdict.{Reply, refused, replied, Check, _⇒_, verdict, applying}
+use Rattle.state.specs.Checks.{lengthTooLong, commandTooHigh, windowTooLong, storeWrongSize, outsideWindow, bufferTooShort}
+use Rattle.cache.specs.Runs.{Call, begin, fetch, end, hostWrite, ownWrite, show, Machine, start, along, ran, says}
+use Rattle.history.specs.Journal.{Event, journal, told, backwards, Deed, began, fetched, ended, other, deed}
+use Rattle.history.specs.Firsts.{fetchedSince}
+use Rattle.history.specs.Counts.{freshSince}
+
+-- A search back through the events: was the last accepted begin or end of the command a begin?
+unfoldable pub opens : Deed → (c : ℕ) → Bool → Bool
+opens (began d) c further = cond (eqb c d) true further
+opens (fetched d a n window) c further = further
+opens (ended d) c further = cond (eqb c d) false further
+opens other c further = further
+
+unfoldable pub openSince : List Event → ℕ → Bool
+openSince [] c = false
+openSince (e ∷ past) c = opens (deed e) c (openSince past c)
+
+-- how many of the listed addresses pass a test
+unfoldable pub count : (ℕ → Bool) → List ℕ → ℕ
+count test [] = 0
+count test (x ∷ xs) = cond (test x) (suc (count test xs)) (count test xs)
+
+module _ (past : List Event) (c : ℕ) where
+  -- the addresses that the command has fetched since its begin: how many of all addresses, and how many of a span
+  abbrev pub fetchedCount : ℕ
+  fetchedCount = count (fetchedSince past c) (span 0 windowLimit)
+
+  abbrev pub againCount : (a n : ℕ) → ℕ
+  againCount a n = count (fetchedSince past c) (span a n)
+
+  -- and how many of a span it has not fetched: its first fetches, if the span is fetched now
+  abbrev pub firstCount : (a n : ℕ) → ℕ
+  firstCount a n = count (λ x. not (fetchedSince past c x)) (span a n)
+
+  -- the longest unbroken runs of the addresses that it has fetched, which are its records, and what they become with a span
+  abbrev pub runsOf : List Record
+  runsOf = runs (fetchedSince past c)
+
+  abbrev pub runsWith : (a n : ℕ) → List Record
+  runsWith a n = runs (λ x. fetchedSince past c x || inSpan a n x)
+
+  -- 21, 22, 23, 24 and 25 of 01, told from the events before
+  abbrev pub notOpen : Check
+  notOpen = not (openSince past c) ⇒ number CommandNotOpen
+
+  abbrev pub alreadyOpen : Check
+  alreadyOpen = openSince past c ⇒ number CommandAlreadyOpen
+
+  abbrev pub bytesFull : (a n : ℕ) → Check
+  bytesFull a n = ltb heldLimit (fetchedCount + firstCount a n) ⇒ number TooManyBytes
+
+  abbrev pub recordsFull : (a n : ℕ) → Check
+  recordsFull a n = ltb recordLimit (length (runsWith a n)) ⇒ number TooManyRecords
+
+  abbrev pub noSuchRun : ℕ → Check
+  noSuchRun i = leb (length runsOf) i ⇒ number NoSuchRecord
+
+module _ (storeLen : ℕ) (past : List Event) where
+  -- a fetch's numbers below 23, judged by its numbers, the lengths and whether its command is open
+  abbrev pub lowerChecks : (c a n destLen windowLen : ℕ) → List Check
+  lowerChecks c a n destLen windowLen =
+      lengthTooLong n ∷ commandTooHigh c ∷ windowTooLong windowLen ∷ storeWrongSize storeLen ∷ outsideWindow windowLen a n
+      ∷ bufferTooShort destLen n ∷ notOpen past c ∷ []
+
+  -- What a call is owed: 01's number of the first check that applies, else 01's reply. 20 is in no list, for it is never given.
+  unfoldable pub answerOwed : Call → Reply
+  answerOwed (begin c) = verdict (commandTooHigh c ∷ storeWrongSize storeLen ∷ alreadyOpen past c ∷ []) (replied [])
+  answerOwed (fetch c a n dest window) =
+      verdict (lowerChecks c a n (length dest) (length window) ++ bytesFull past c a n ∷ recordsFull past c a n ∷ [])
+      (replied (firstCount past c a n ∷ againCount past c a n ∷ []))
+  answerOwed (end c) =
+      verdict (commandTooHigh c ∷ storeWrongSize storeLen ∷ notOpen past c ∷ []) (replied (length (runsOf past c) ∷ fetchedCount past c ∷ []))
+  answerOwed (hostWrite a bytes window) =
+      verdict (lengthTooLong (length bytes) ∷ windowTooLong (length window) ∷ outsideWindow (length window) a (length bytes) ∷ [])
+      (replied (length bytes ∷ []))
+  answerOwed (ownWrite c a bytes window) =
+      verdict
+      (lengthTooLong (length bytes) ∷ commandTooHigh c ∷ windowTooLong (length window) ∷ outsideWindow (length window) a (length bytes)
+      ∷ notOpen past c ∷ [])
+      (replied (length bytes ∷ []))
+  answerOwed (show c i) =
+      let r = getD (runsOf past c) i noRecord in
+      verdict (commandTooHigh c ∷ notOpen past c ∷ noSuchRun past c i ∷ []) (replied (r .start ∷ r .len ∷ []))
+
+  abbrev pub answersOwed : Event → Reply
+  answersOwed e = answerOwed (e .call)
+
+-- After every list a command is open exactly if the last accepted begin or end of it was a begin.
+abbrev pub OpenTold : Type 0
+OpenTold =
+    (store : List ℕ) (ps : List Call) (c : ℕ) → isOpen (ran (start store) ps .state) c ≡ openSince (backwards [] (journal store ps)) c
+
+-- Every call of every list is answered as the calls before it owe, refusals, counts, end's two numbers and what show gives included.
+abbrev pub AnswersTold : Type 0
+AnswersTold = (store : List ℕ) (ps : List Call) → along says (start store) ps ≡ told (answersOwed (length store)) [] (journal store ps)
