@@ -8,13 +8,14 @@ use mathlib.Core.Bool.{Bool, true, false, false≢true, cond, _&&_, _||_, and-fa
 use lib.Dec.{ltb, leb, eqb}
 use borrow.Author.Tests.{ltb-true, ltb-false, le-leb, lt-leb, lt-ltb, le-ltb, eqb-true, eqb-false, eq-eqb, ne-eqb}
 use Rattle.state.specs.declared.Record.{Record}
-use Rattle.state.specs.Records.{past, inSpan, held, shares, touches, meets}
+use Rattle.state.specs.Records.{past, inSpan, held, shares, touches, meets, joined}
 use Rattle.state.specs.State.{ascending, holds}
 use Rattle.state.specs.Runs.{inFront, runsFrom, runs}
-use Rattle.state.specs.Claims.{MeetsWords, AreRuns, RunsAreRuns, TouchingBroken, RecordsRuns}
+use Rattle.state.specs.Claims.{MeetsWords, AreRuns, RunsAreRuns, TouchingBroken, RecordsRuns, JoinedRuns}
 use Rattle.state.proofs.Cases.{Side, before, meets as met, after, side, Ascends, ascends, ascending-cons, ascending-from, ascending-lower, inside, below}
 use Rattle.state.proofs.Cases.{above}
 use Rattle.state.proofs.Places.{held-low}
+use Rattle.state.proofs.Laws.{held-joined, ascending-joined}
 use Rattle.state.proofs.Commands.{kept}
 
 pub meets-words : MeetsWords
@@ -144,6 +145,11 @@ runs-of (suc n) lo (r ∷ rs) e up = one-more n lo (λ ss h. runs-of n (suc lo) 
 
 pub records-runs : RecordsRuns
 records-runs rs up = sym (runs-of 65536 0 rs refl up)
+
+pub joined-runs : JoinedRuns
+joined-runs rs a n up fits =
+    records-runs (joined rs a n) (ascending-joined rs a n up fits)
+    ∙ runs-same (held (joined rs a n)) (λ x. held rs x || inSpan a n x) 0 65536 (λ x h. held-joined rs a n x)
 
 -- Runs of any test leave gaps
 

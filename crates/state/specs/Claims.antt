@@ -1,11 +1,11 @@
 -- The claims about records (request F-1 of 02, the agreed changes; docs/RULES.md has its rule).
-use Prim.Native.Nat.{ℕ, _<_}
+use Prim.Native.Nat.{ℕ, _+_, _≤_, _<_}
 use mathlib.Core.Path.{_≡_}
 use mathlib.Core.List.{List, _∷_, _++_}
 use mathlib.Core.Bool.{Bool, true, false, _||_}
 use Rattle.state.specs.declared.Record.{Record}
 use Rattle.state.specs.Limits.{windowLimit}
-use Rattle.state.specs.Records.{past, held, shares, touches, meets}
+use Rattle.state.specs.Records.{past, inSpan, held, shares, touches, meets, joined}
 use Rattle.state.specs.State.{State, recordsOf, ascending, holds}
 use Rattle.state.specs.Runs.{runs}
 
@@ -31,3 +31,10 @@ TouchingBroken =
 -- Records that keep to the rules are the longest runs of the addresses that they hold.
 abbrev pub RecordsRuns : Type 0
 RecordsRuns = (rs : List Record) → ascending 0 rs ≡ true → rs ≡ runs (held rs)
+
+-- The joining rule of 01 with F-1, told from addresses alone: records that keep to the rules become, once a span is joined, the longest runs
+-- of the addresses that they held or that lie in the span. (A span of length 0 has no address, so that they stay as they were.)
+abbrev pub JoinedRuns : Type 0
+JoinedRuns =
+    (rs : List Record) (a n : ℕ) → ascending 0 rs ≡ true → a + n ≤ windowLimit
+    → joined rs a n ≡ runs (λ x. held rs x || inSpan a n x)
