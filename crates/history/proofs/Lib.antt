@@ -11,6 +11,7 @@ pub mod Delivery
 pub mod SameValue
 pub mod Stored
 pub mod Counts
+pub mod Answers
 pub mod Alike
 pub mod Values
 pub mod EqualRuns
