@@ -1,23 +1,20 @@
 -- Every call of every list is answered as the calls before it owe.
-use Prim.Native.Nat.{ℕ, suc, _+_, _-_, _≤_, _<_}
+use Prim.Native.Nat.{ℕ, suc, _+_, _-_, _≤_}
 use native.Mathlib.Omega.{arith}
 use mathlib.Core.Path.{_≡_, refl, ap, ap₂, sym, fun-ext, _∙_}
 use mathlib.Core.List.{List, [], _∷_}
 use mathlib.Core.Bool.{Bool, true, false, cond, not, _||_}
-use lib.Dec.{eqb}
 use lib.ListN.{length, getD}
-use borrow.Author.Tests.{eqb-true, eqb-false, ltb-false, not-false}
-use Rattle.octets.proofs.Lists.{getD-same}
+use borrow.Author.Tests.{ltb-false, not-false}
 use Rattle.state.specs.declared.Record.{Record}
-use Rattle.state.specs.Limits.{commandLimit, windowLimit}
+use Rattle.state.specs.Limits.{windowLimit}
 use Rattle.state.specs.Records.{past as pastRecord, inSpan, held, span, total, place, countFresh, fresh, joined}
 use Rattle.state.specs.Runs.{runs}
-use Rattle.state.specs.State.{CommandState, State, recordsOf, isOpen, withCommand, open-with, closed, ascending, holds, noRecord}
-use Rattle.state.specs.Verdict.{Reply, replied, accepted, Check, _⇒_, verdict}
+use Rattle.state.specs.State.{State, recordsOf, isOpen, ascending, holds, noRecord}
+use Rattle.state.specs.Verdict.{Reply, replied, Check, _⇒_, verdict}
 use Rattle.state.specs.Checks.{tooManyBytes, tooManyRecords, noSuchRecord}
 use Rattle.state.proofs.Cases.{ascends}
 use Rattle.state.proofs.Places.{place-low, fresh-place, length-span}
-use Rattle.state.proofs.Commands.{command-same, command-other, eight}
 use Rattle.state.proofs.Runs.{records-runs, joined-runs}
 use Rattle.cache.specs.Begin.{beginSays}
 use Rattle.cache.specs.Fetch.{fetchSays}
@@ -25,80 +22,13 @@ use Rattle.cache.specs.End.{endSays}
 use Rattle.cache.specs.HostWrite.{hostSays}
 use Rattle.cache.specs.OwnWrite.{ownSays}
 use Rattle.cache.specs.Show.{showSays}
-use Rattle.cache.proofs.Accepted.{fetched}
-use Rattle.cache.specs.Runs.{Call, begin, fetch, end, hostWrite, ownWrite, show, Machine, start, says, after, along, ran}
-use Rattle.history.specs.Journal.{Event, event, told, backwards, deedOf}
+use Rattle.cache.specs.Runs.{Call, begin, fetch, end, hostWrite, ownWrite, show, Machine, start, says, after, along}
+use Rattle.history.specs.Journal.{Event, event, told}
 use Rattle.history.specs.Firsts.{memory, fetchedSince}
-use Rattle.history.specs.Answers.{opens, openSince, count, fetchedCount, againCount, firstCount, runsOf, runsWith, bytesFull, recordsFull, answerOwed, answersOwed}
-use Rattle.history.specs.Answers.{OpenTold, AnswersTold}
-use Rattle.history.proofs.Effects.{refused-same, old, grown, packed, zeros, begin-after, end-after, fetch-after, begin-fits, end-fits, length-after}
-use Rattle.history.proofs.Invariant.{Whole}
-use Rattle.history.proofs.Sound.{Sound, sound-start, sound-after}
+use Rattle.history.specs.Answers.{openSince, count, fetchedCount, againCount, firstCount, runsOf, runsWith, bytesFull, recordsFull}
+use Rattle.history.specs.Answers.{answerOwed, answersOwed, AnswersTold, answersGiven, CallsGiveAnswers}
 use Rattle.history.proofs.Stored.{memory-search, held-known, K}
-
--- Open and closed: a call leaves a command open exactly if the search, one event further, finds it so.
-
-opened-with : (s : State) (c : ℕ) (next : CommandState) (d : ℕ) → c < length (s .commands)
-    → isOpen (withCommand s c next) d ≡ cond (eqb d c) (next .opened) (isOpen s d)
-opened-with s c next d h = go (eqb d c) refl
-  where
-    go : (b : Bool) → eqb d c ≡ b → isOpen (withCommand s c next) d ≡ cond b (next .opened) (isOpen s d)
-    go true e =
-        ap (λ (k : ℕ). isOpen (withCommand s c next) k) (eqb-true d c e) ∙ ap (λ (p : CommandState). p .opened) (command-same s c next h)
-    go false e = ap (λ (p : CommandState). p .opened) (command-other s c next d (eqb-false d c e))
-
-opened-after : (m : Machine) (p : Call) (b : Bool) → accepted (says m p) ≡ b → Whole (m .state) → (d : ℕ)
-    → isOpen (after m p .state) d ≡ opens (deedOf b p) d (isOpen (m .state) d)
-unfolding opens
-opened-after m p false e W d = ap (λ (k : Machine). isOpen (k .state) d) (refused-same m p e)
-opened-after m (begin c) true e W d =
-    ap (λ (k : Machine). isOpen (k .state) d) (begin-after m c e)
-    ∙ opened-with (m .state) c (open-with []) d (omega (arith, eight (m .state) (W .shape), begin-fits m c e .command))
-opened-after m (fetch c a n dest window) true e W d =
-    let F = fetched (m .state) (length (m .store)) (length window) (length dest) c a n e in
-    ap (λ (k : Machine). isOpen (k .state) d) (fetch-after m c a n dest window e)
-    ∙ opened-with (m .state) c (open-with (grown m c a n)) d (omega (arith, eight (m .state) (W .shape), F .command))
-    ∙ go (F .opened) (eqb d c) refl
-  where
-    go : isOpen (m .state) c ≡ true → (b : Bool) → eqb d c ≡ b → cond b true (isOpen (m .state) d) ≡ isOpen (m .state) d
-    go o true q = sym (ap (isOpen (m .state)) (eqb-true d c q) ∙ o)
-    go o false q = refl
-opened-after m (end c) true e W d =
-    ap (λ (k : Machine). isOpen (k .state) d) (end-after m c e)
-    ∙ opened-with (m .state) c closed d (omega (arith, eight (m .state) (W .shape), end-fits m c e .command))
-opened-after m (hostWrite a bytes window) true e W d = refl
-opened-after m (ownWrite c a bytes window) true e W d = refl
-opened-after m (show c i) true e W d = refl
-
--- What holds between a machine and the events that led to it
-record Tied (storeLen : ℕ) (m : Machine) (past : List Event) : Type 0 where
-  sound : Sound m (memory past)
-  opened : (c : ℕ) → isOpen (m .state) c ≡ openSince past c
-  size : length (m .store) ≡ storeLen
-
-tied-start : (store : List ℕ) → Tied (length store) (start store) []
-unfolding openSince
-tied-start store =
-    record { sound = sound-start store; opened = λ c. ap (λ (p : CommandState). p .opened) (getD-same commandLimit c closed); size = refl }
-
-tied-after : (storeLen : ℕ) (m : Machine) (past : List Event) (p : Call) → Tied storeLen m past → Tied storeLen (after m p) (event m p ∷ past)
-unfolding memory openSince
-tied-after storeLen m past p T =
-    let ok = accepted (says m p) in
-    record {
-      sound = sound-after m (memory past) p ok refl (T .sound);
-      opened = λ d. opened-after m p ok refl (T .sound .state) d ∙ ap (opens (deedOf ok p) d) (T .opened d);
-      size = length-after m p ∙ T .size;
-    }
-
-tied-ran : (storeLen : ℕ) (m : Machine) (past : List Event) (ps : List Call) → Tied storeLen m past
-    → Tied storeLen (ran m ps) (backwards past (along event m ps))
-unfolding ran along backwards
-tied-ran storeLen m past [] T = T
-tied-ran storeLen m past (p ∷ ps) T = tied-ran storeLen (after m p) (event m p ∷ past) ps (tied-after storeLen m past p T)
-
-pub open-told : OpenTold
-open-told store ps = tied-ran (length store) (start store) [] ps (tied-start store) .opened
+use Rattle.history.proofs.Tied.{Tied, tied-start, tied-after}
 
 -- Counts of addresses, and of records
 
@@ -153,7 +83,7 @@ module _ (storeLen : ℕ) (m : Machine) (past : List Event) (T : Tied storeLen m
   held-since : held rs ≡ fetchedSince past c
   held-since = fun-ext λ x. held-known m (memory past) (T .sound) c o x ∙ memory-search past c x
 
-  total-told : total rs ≡ fetchedCount past c
+  pub total-told : total rs ≡ fetchedCount past c
   total-told = total-count rs up ∙ ap (λ (f : ℕ → Bool). count f (span 0 windowLimit)) held-since
 
   fresh-told : (a n : ℕ) → fresh rs a n ≡ firstCount past c a n
@@ -176,7 +106,7 @@ verdict-same true k cs ds r t h = refl
 verdict-same false k cs ds r t h = h refl
 
 -- and one that never applies
-verdict-none : (k : ℕ) (cs : List Check) (r : Reply) → verdict (false ⇒ k ∷ cs) r ≡ verdict cs r
+pub verdict-none : (k : ℕ) (cs : List Check) (r : Reply) → verdict (false ⇒ k ∷ cs) r ≡ verdict cs r
 unfolding verdict
 verdict-none k cs r = refl
 
@@ -244,7 +174,7 @@ module _ (storeLen : ℕ) (m : Machine) (past : List Event) (T : Tied storeLen m
             joined-told storeLen m past T c o a n fits,
           )
 
-  answer-here : (p : Call) → says m p ≡ answerOwed storeLen past p
+  pub answer-here : (p : Call) → says m p ≡ answerOwed storeLen past p
   unfolding answerOwed hostSays
   answer-here (begin c) = begin-owed c
   answer-here (fetch c a n dest window) = fetch-owed c a n dest window
@@ -262,3 +192,18 @@ answers-along storeLen past m (p ∷ ps) T =
 
 pub answers-told : AnswersTold
 answers-told store ps = answers-along (length store) [] (start store) ps (tied-start store)
+
+-- and with no run behind it: the answers owed are the answers given, so the events are the same
+
+given-along : (storeLen : ℕ) (past : List Event) (m : Machine) (ps : List Call) → Tied storeLen m past
+    → along says m ps ≡ answersGiven storeLen past ps
+unfolding along answersGiven
+given-along storeLen past m [] T = refl
+given-along storeLen past m (p ∷ ps) T =
+    let here = answer-here storeLen m past T p in
+    ap₂ _∷_ here
+    (given-along storeLen (event m p ∷ past) (after m p) ps (tied-after storeLen m past p T)
+    ∙ ap (λ (r : Reply). answersGiven storeLen (record { call = p; answer = r } ∷ past) ps) here)
+
+pub calls-give-answers : CallsGiveAnswers
+calls-give-answers store ps = given-along (length store) [] (start store) ps (tied-start store)

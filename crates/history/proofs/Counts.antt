@@ -67,11 +67,11 @@ counts-tie store ps = counts-along [] (start store) ps (sound-start store)
 
 -- The bytes that an open command holds are the sum of its fresh counts.
 
-abbrev Sums : CommandState → (ℕ → ℕ) → ℕ → Type 0
+abbrev pub Sums : CommandState → (ℕ → ℕ) → ℕ → Type 0
 Sums p sums c = p .opened ≡ true → sums c ≡ total (recordsIn p)
 
-record Summed (m : Machine) (sums : ℕ → ℕ) : Type 0 where
-  sum : (c : ℕ) → Sums (commandOf (m .state) c) sums c
+pub record Summed (m : Machine) (sums : ℕ → ℕ) : Type 0 where
+  pub sum : (c : ℕ) → Sums (commandOf (m .state) c) sums c
 
 module _ (m : Machine) (c : ℕ) (next : CommandState) (bytes : List ℕ) (mem : Memory) (S : Sound m mem) (F : Fits m c next bytes) (sums then : ℕ → ℕ) (C : Summed m sums)
     (others : (d : ℕ) → d ≢ c → then d ≡ sums d) (own : Sums next then c) where
@@ -89,7 +89,7 @@ module _ (m : Machine) (c : ℕ) (next : CommandState) (bytes : List ℕ) (mem :
               let apart = eqb-false d c e in
               subst (λ (p : CommandState). Sums p then d) (sym (command-other (m .state) c next d apart)) (λ o. others d apart ∙ C .sum d o)
 
-summed-after :
+pub summed-after :
     (m : Machine) (mem : Memory) (sums : ℕ → ℕ) (p : Call) (b : Bool) → accepted (says m p) ≡ b → Sound m mem → Summed m sums
     → Summed (after m p) (add sums (says m p) (deedOf b p))
 unfolding add total
@@ -131,6 +131,8 @@ sums-along past m (p ∷ ps) S C =
     ap₂ _∷_ (sum-here m (freshSince past) p ok refl C)
     (sums-along (event m p ∷ past) (after m p) ps (sound-after m (memory past) p ok refl S) (summed-after m (memory past) (freshSince past) p ok refl S C))
 
+pub summed-start : (store : List ℕ) → Summed (start store) (freshSince [])
+summed-start store = record { sum = λ c o. absurd (false≢true (rw (getD-same commandLimit c closed) at o)) }
+
 pub end-sum : EndSum
-end-sum store ps =
-    sums-along [] (start store) ps (sound-start store) (record { sum = λ c o. absurd (false≢true (rw (getD-same commandLimit c closed) at o)) })
+end-sum store ps = sums-along [] (start store) ps (sound-start store) (summed-start store)

@@ -103,11 +103,48 @@ module _ (storeLen : ℕ) (past : List Event) where
   abbrev pub answersOwed : Event → Reply
   answersOwed e = answerOwed (e .call)
 
+-- the events of a list of calls, the latest first
+abbrev pub eventsOf : (store : List ℕ) → List Call → List Event
+eventsOf store ps = backwards [] (journal store ps)
+
 -- After every list a command is open exactly if the last accepted begin or end of it was a begin.
 abbrev pub OpenTold : Type 0
 OpenTold =
-    (store : List ℕ) (ps : List Call) (c : ℕ) → isOpen (ran (start store) ps .state) c ≡ openSince (backwards [] (journal store ps)) c
+    (store : List ℕ) (ps : List Call) (c : ℕ) → isOpen (ran (start store) ps .state) c ≡ openSince (eventsOf store ps) c
 
 -- Every call of every list is answered as the calls before it owe, refusals, counts, end's two numbers and what show gives included.
 abbrev pub AnswersTold : Type 0
 AnswersTold = (store : List ℕ) (ps : List Call) → along says (start store) ps ≡ told (answersOwed (length store)) [] (journal store ps)
+
+-- The same with no run at all behind it: calls and the length of the store alone give every answer, each by the answers owed before it.
+unfoldable pub answersGiven : (storeLen : ℕ) → List Event → List Call → List Reply
+answersGiven storeLen past [] = []
+answersGiven storeLen past (p ∷ ps) =
+    let r = answerOwed storeLen past p in r ∷ answersGiven storeLen (record { call = p; answer = r } ∷ past) ps
+
+abbrev pub CallsGiveAnswers : Type 0
+CallsGiveAnswers = (store : List ℕ) (ps : List Call) → along says (start store) ps ≡ answersGiven (length store) [] ps
+
+-- The order's second question, two counts of what is spare and how they meet. One counts every place of a command's part of the store,
+-- 4,096. The other counts the places that are not handed out yet: those less one for each address that the command has fetched since its
+-- begin.
+abbrev pub spare : List Event → (c : ℕ) → ℕ
+spare past c = heldLimit - fetchedCount past c
+
+pub record Meets (store : List ℕ) (ps : List Call) (c : ℕ) : Type 0 where
+  -- the bytes that its records hold are the addresses that it has fetched since its begin, each counted once
+  pub held : total (recordsOf (ran (start store) ps .state) c) ≡ fetchedCount (eventsOf store ps) c
+  -- and these are as many as the fresh counts that it was replied since its begin come to
+  pub handedOut : fetchedCount (eventsOf store ps) c ≡ freshSince (eventsOf store ps) c
+  -- the two counts meet: every place is spare, or was handed out by a reply since the begin
+  pub meet : freshSince (eventsOf store ps) c + spare (eventsOf store ps) c ≡ heldLimit
+  -- a fetch to which no lower number applies is answered 23 exactly if it has more first fetches than places are spare
+  pub full :
+      (a n : ℕ) (dest window : List ℕ)
+      → applying (lowerChecks (length store) (eventsOf store ps) c a n (length dest) (length window)) ≡ []
+      → (says (ran (start store) ps) (fetch c a n dest window) ≡ refused (number TooManyBytes))
+      ↔ (spare (eventsOf store ps) c < firstCount (eventsOf store ps) c a n)
+
+-- After every list, for every open command.
+abbrev pub CountsMeet : Type 0
+CountsMeet = (store : List ℕ) (ps : List Call) (c : ℕ) → isOpen (ran (start store) ps .state) c ≡ true → Meets store ps c
