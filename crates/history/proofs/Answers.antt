@@ -1,20 +1,21 @@
 -- Every call of every list is answered as the calls before it owe.
-use Prim.Native.Nat.{ℕ, suc, _+_, _-_, _≤_}
+use Prim.Native.Nat.{ℕ, suc, _+_, _≤_}
 use native.Mathlib.Omega.{arith}
 use mathlib.Core.Path.{_≡_, refl, ap, ap₂, sym, fun-ext, _∙_}
 use mathlib.Core.List.{List, [], _∷_}
 use mathlib.Core.Bool.{Bool, true, false, cond, not, _||_}
+use lib.Dec.{ltb}
 use lib.ListN.{length, getD}
 use borrow.Author.Tests.{ltb-false, not-false}
 use Rattle.state.specs.declared.Record.{Record}
 use Rattle.state.specs.Limits.{windowLimit}
-use Rattle.state.specs.Records.{past as pastRecord, inSpan, held, span, total, place, countFresh, fresh, joined}
+use Rattle.state.specs.Records.{past as pastRecord, inSpan, held, span, total, place, countFresh, fresh, countHeld, replayed, joined}
 use Rattle.state.specs.Runs.{runs}
 use Rattle.state.specs.State.{State, recordsOf, isOpen, ascending, holds, noRecord}
 use Rattle.state.specs.Verdict.{Reply, replied, Check, _⇒_, verdict}
 use Rattle.state.specs.Checks.{tooManyBytes, tooManyRecords, noSuchRecord}
 use Rattle.state.proofs.Cases.{ascends}
-use Rattle.state.proofs.Places.{place-low, fresh-place, length-span}
+use Rattle.state.proofs.Places.{place-low, fresh-place, counts-fill}
 use Rattle.state.proofs.Runs.{records-runs, joined-runs}
 use Rattle.cache.specs.Begin.{beginSays}
 use Rattle.cache.specs.Fetch.{fetchSays}
@@ -25,31 +26,25 @@ use Rattle.cache.specs.Show.{showSays}
 use Rattle.cache.specs.Runs.{Call, begin, fetch, end, hostWrite, ownWrite, show, Machine, start, says, after, along}
 use Rattle.history.specs.Journal.{Event, event, told}
 use Rattle.history.specs.Firsts.{memory, fetchedSince}
-use Rattle.history.specs.Answers.{openSince, count, fetchedCount, againCount, firstCount, runsOf, runsWith, bytesFull, recordsFull}
+use Rattle.history.specs.Counts.{count}
+use Rattle.history.specs.Answers.{openSince, fetchedCount, againCount, firstCount, runsOf, runsWith, bytesFull, recordsFull, noSuchRun}
 use Rattle.history.specs.Answers.{answerOwed, answersOwed, AnswersTold, answersGiven, CallsGiveAnswers}
 use Rattle.history.proofs.Stored.{memory-search, held-known, K}
 use Rattle.history.proofs.Tied.{Tied, tied-start, tied-after}
 
 -- Counts of addresses, and of records
 
-count-both : (test : ℕ → Bool) (xs : List ℕ) → count test xs + count (λ x. not (test x)) xs ≡ length xs
-unfolding count
-count-both test [] = refl
-count-both test (x ∷ xs) = go (test x) (count-both test xs)
-  where
-    go : (b : Bool) → count test xs + count (λ y. not (test y)) xs ≡ length xs
-        → cond b (suc (count test xs)) (count test xs)
-        + cond (not b) (suc (count (λ y. not (test y)) xs)) (count (λ y. not (test y)) xs) ≡ suc (length xs)
-    go true ih = omega arith
-    go false ih = omega arith
+count-held : (rs : List Record) (xs : List ℕ) → countHeld rs xs ≡ count (held rs) xs
+unfolding countHeld count
+count-held rs [] = refl
+count-held rs (x ∷ xs) = ap (λ (k : ℕ). cond (held rs x) (suc k) k) (count-held rs xs)
 
 count-fresh : (rs : List Record) (xs : List ℕ) → countFresh rs xs ≡ count (λ x. not (held rs x)) xs
 unfolding countFresh count
 count-fresh rs [] = refl
 count-fresh rs (x ∷ xs) = go (held rs x) (count-fresh rs xs)
   where
-    go : (b : Bool) → countFresh rs xs ≡ count (λ y. not (held rs y)) xs
-        → cond b (countFresh rs xs) (suc (countFresh rs xs)) ≡ cond (not b) (suc (count (λ y. not (held rs y)) xs)) (count (λ y. not (held rs y)) xs)
+    go : (b : Bool) {k l : ℕ} → k ≡ l → cond b k (suc k) ≡ cond (not b) (suc l) l
     go true ih = ih
     go false ih = ap suc ih
 
@@ -63,13 +58,16 @@ total-count : (rs : List Record) → ascending 0 rs ≡ true → total rs ≡ co
 total-count rs up =
     omega (
       arith,
-      place-end 0 rs up,
       place-low 0 rs 0 up (omega arith),
+      place-end 0 rs up,
       fresh-place 0 rs 0 windowLimit up,
-      count-fresh rs (span 0 windowLimit),
-      count-both (held rs) (span 0 windowLimit),
-      length-span 0 windowLimit,
+      counts-fill rs 0 windowLimit,
+      count-held rs (span 0 windowLimit),
     )
+
+-- what show replies of these records
+abbrev shown : List Record → ℕ → Reply
+shown rs i = let r = getD rs i noRecord in replied (r .start ∷ r .len ∷ [])
 
 -- What an open command has is told from the events.
 
@@ -89,14 +87,34 @@ module _ (storeLen : ℕ) (m : Machine) (past : List Event) (T : Tied storeLen m
   fresh-told : (a n : ℕ) → fresh rs a n ≡ firstCount past c a n
   fresh-told a n = count-fresh rs (span a n) ∙ ap (λ (f : ℕ → Bool). count (λ x. not (f x)) (span a n)) held-since
 
-  replayed-told : (a n : ℕ) → n - fresh rs a n ≡ againCount past c a n
-  replayed-told a n = omega (arith, fresh-told a n, count-both (fetchedSince past c) (span a n), length-span a n)
+  replayed-told : (a n : ℕ) → replayed rs a n ≡ againCount past c a n
+  replayed-told a n = count-held rs (span a n) ∙ ap (λ (f : ℕ → Bool). count f (span a n)) held-since
 
   runs-told : rs ≡ runsOf past c
   runs-told = records-runs rs up ∙ ap runs held-since
 
   joined-told : (a n : ℕ) → a + n ≤ windowLimit → joined rs a n ≡ runsWith past c a n
   joined-told a n fits = joined-runs rs a n up fits ∙ ap (λ (f : ℕ → Bool). runs (λ x. f x || inSpan a n x)) held-since
+
+  -- 23, 24 and 25
+  bytes-full-told : (a n : ℕ) → tooManyBytes rs a n ≡ bytesFull past c a n
+  bytes-full-told a n = rw (total-told, fresh-told a n)
+
+  records-full-told : (a n : ℕ) → a + n ≤ windowLimit → tooManyRecords rs a n ≡ recordsFull past c a n
+  records-full-told a n fits = rw (joined-told a n fits)
+
+  no-such-told : (i : ℕ) → noSuchRecord rs i ≡ noSuchRun past c i
+  no-such-told i = ap (λ (ts : List Record). noSuchRecord ts i) runs-told
+
+  -- and the replies
+  fetch-told : (a n : ℕ) → replied (fresh rs a n ∷ replayed rs a n ∷ []) ≡ replied (firstCount past c a n ∷ againCount past c a n ∷ [])
+  fetch-told a n = rw (fresh-told a n, replayed-told a n)
+
+  end-told : replied (length rs ∷ total rs ∷ []) ≡ replied (length (runsOf past c) ∷ fetchedCount past c ∷ [])
+  end-told = ap₂ (λ k b. replied (k ∷ b ∷ [])) (ap length runs-told) total-told
+
+  show-told : (i : ℕ) → shown rs i ≡ shown (runsOf past c) i
+  show-told i = ap (λ (ts : List Record). shown ts i) runs-told
 
 -- A check that both lists have: what follows it matters where it does not apply.
 verdict-same : (b : Bool) (k : ℕ) (cs ds : List Check) (r t : Reply) → (b ≡ false → verdict cs r ≡ verdict ds t)
@@ -119,12 +137,34 @@ module _ (storeLen : ℕ) (m : Machine) (past : List Event) (T : Tied storeLen m
   whole : holds s ≡ true
   whole = T .sound .state .whole
 
-  closed-told : (c : ℕ) → not (openSince past c) ≡ false → isOpen s c ≡ true
-  closed-told c h = T .opened c ∙ not-false _ h
+  opened-told : (c : ℕ) → not (openSince past c) ≡ false → isOpen s c ≡ true
+  opened-told c h = T .opened c ∙ not-false _ h
 
   begin-owed : (c : ℕ) → says m (begin c) ≡ answerOwed storeLen past (begin c)
   unfolding answerOwed beginSays verdict
   begin-owed c = rw (T .size, whole, T .opened c)
+
+  fetch-owed : (c a n : ℕ) (dest window : List ℕ) → says m (fetch c a n dest window) ≡ answerOwed storeLen past (fetch c a n dest window)
+  unfolding answerOwed fetchSays
+  fetch-owed c a n dest window =
+      rw (T .size, whole, T .opened c)
+      (verdict-same _ _ _ _ _ _ λ _.
+      verdict-same _ _ _ _ _ _ λ _.
+      verdict-same _ _ _ _ _ _ λ low.
+      verdict-same _ _ _ _ _ _ λ _.
+      verdict-same _ _ _ _ _ _ λ inside.
+      verdict-same _ _ _ _ _ _ λ _.
+      verdict-none _ _ _ ∙ verdict-same _ _ _ _ _ _ λ h. behind (opened-told c h) low inside)
+    where
+      behind : isOpen s c ≡ true → ltb windowLimit (length window) ≡ false → ltb (length window) (a + n) ≡ false
+          → verdict (tooManyBytes (recordsOf s c) a n ∷ tooManyRecords (recordsOf s c) a n ∷ [])
+          (replied (fresh (recordsOf s c) a n ∷ replayed (recordsOf s c) a n ∷ []))
+          ≡ verdict (bytesFull past c a n ∷ recordsFull past c a n ∷ []) (replied (firstCount past c a n ∷ againCount past c a n ∷ []))
+      behind o low inside =
+          let fits : a + n ≤ windowLimit = omega (arith, ltb-false windowLimit (length window) low, ltb-false (length window) (a + n) inside) in
+          ap₂ (λ k r. verdict k r)
+          (ap₂ (λ b k. b ∷ k ∷ []) (bytes-full-told storeLen m past T c o a n) (records-full-told storeLen m past T c o a n fits))
+          (fetch-told storeLen m past T c o a n)
 
   end-owed : (c : ℕ) → says m (end c) ≡ answerOwed storeLen past (end c)
   unfolding answerOwed endSays
@@ -132,9 +172,7 @@ module _ (storeLen : ℕ) (m : Machine) (past : List Event) (T : Tied storeLen m
       rw (T .size, whole, T .opened c)
       (verdict-same _ _ _ _ _ _ λ _.
       verdict-same _ _ _ _ _ _ λ _.
-      verdict-none _ _ _
-      ∙ verdict-same _ _ _ _ _ _ λ h.
-      ap₂ (λ k b. verdict [] (replied (k ∷ b ∷ []))) (ap length (runs-told storeLen m past T c (closed-told c h))) (total-told storeLen m past T c (closed-told c h)))
+      verdict-none _ _ _ ∙ verdict-same _ _ _ _ _ _ λ h. ap (verdict []) (end-told storeLen m past T c (opened-told c h)))
 
   own-owed : (c a : ℕ) (bytes window : List ℕ) → says m (ownWrite c a bytes window) ≡ answerOwed storeLen past (ownWrite c a bytes window)
   unfolding answerOwed ownSays verdict
@@ -147,32 +185,7 @@ module _ (storeLen : ℕ) (m : Machine) (past : List Event) (T : Tied storeLen m
       (verdict-same _ _ _ _ _ _ λ _.
       verdict-none _ _ _
       ∙ verdict-same _ _ _ _ _ _ λ h.
-      ap (λ (rs : List Record). verdict (noSuchRecord rs i ∷ []) (replied (getD rs i noRecord .start ∷ getD rs i noRecord .len ∷ []))) (runs-told storeLen m past T c (closed-told c h)))
-
-  fetch-owed : (c a n : ℕ) (dest window : List ℕ) → says m (fetch c a n dest window) ≡ answerOwed storeLen past (fetch c a n dest window)
-  unfolding answerOwed fetchSays
-  fetch-owed c a n dest window =
-      rw (T .size, whole, T .opened c)
-      (verdict-same _ _ _ _ _ _ λ _.
-      verdict-same _ _ _ _ _ _ λ _.
-      verdict-same _ _ _ _ _ _ λ low.
-      verdict-same _ _ _ _ _ _ λ _.
-      verdict-same _ _ _ _ _ _ λ inside.
-      verdict-same _ _ _ _ _ _ λ _.
-      verdict-none _ _ _
-      ∙ verdict-same _ _ _ _ _ _ λ h. room (closed-told c h) (omega (arith, ltb-false windowLimit (length window) low, ltb-false (length window) (a + n) inside)))
-    where
-      room : isOpen s c ≡ true → a + n ≤ windowLimit
-          → verdict (tooManyBytes (recordsOf s c) a n ∷ tooManyRecords (recordsOf s c) a n ∷ [])
-          (replied (fresh (recordsOf s c) a n ∷ (n - fresh (recordsOf s c) a n) ∷ []))
-          ≡ verdict (bytesFull past c a n ∷ recordsFull past c a n ∷ []) (replied (firstCount past c a n ∷ againCount past c a n ∷ []))
-      room o fits =
-          rw (
-            total-told storeLen m past T c o,
-            replayed-told storeLen m past T c o a n,
-            fresh-told storeLen m past T c o a n,
-            joined-told storeLen m past T c o a n fits,
-          )
+      ap₂ (λ k r. verdict (k ∷ []) r) (no-such-told storeLen m past T c (opened-told c h) i) (show-told storeLen m past T c (opened-told c h) i))
 
   pub answer-here : (p : Call) → says m p ≡ answerOwed storeLen past p
   unfolding answerOwed hostSays

@@ -1,7 +1,7 @@
 -- Every answer, told from the calls: what a call is owed is told from the events before it, from its numbers and from the lengths of what it
 -- is lent. No state, no record and no byte of the store enters, nor the answer that it was given. (01 is the agreed scope; docs/RULES.md
 -- has its rules.)
-use Prim.Native.Nat.{ℕ, suc, _+_, _-_, _<_, _≤_}
+use Prim.Native.Nat.{ℕ, _+_, _-_, _<_}
 use mathlib.Core.Path.{_≡_}
 use mathlib.Core.List.{List, [], _∷_, _++_}
 use mathlib.Core.Bool.{Bool, true, false, cond, not, _||_}
@@ -17,10 +17,10 @@ use Rattle.state.specs.Runs.{runs}
 use Rattle.state.specs.State.{noRecord, recordsOf, isOpen}
 use Rattle.state.specs.Verdict.{Reply, refused, replied, Check, _⇒_, verdict, applying}
 use Rattle.state.specs.Checks.{lengthTooLong, commandTooHigh, windowTooLong, storeWrongSize, outsideWindow, bufferTooShort}
-use Rattle.cache.specs.Runs.{Call, begin, fetch, end, hostWrite, ownWrite, show, Machine, start, along, ran, says}
+use Rattle.cache.specs.Runs.{Call, begin, fetch, end, hostWrite, ownWrite, show, start, along, ran, says}
 use Rattle.history.specs.Journal.{Event, journal, told, backwards, Deed, began, fetched, ended, other, deed}
 use Rattle.history.specs.Firsts.{fetchedSince}
-use Rattle.history.specs.Counts.{freshSince}
+use Rattle.history.specs.Counts.{count, freshSince}
 
 -- A search back through the events: was the last accepted begin or end of the command a begin?
 unfoldable pub opens : Deed → (c : ℕ) → Bool → Bool
@@ -32,11 +32,6 @@ opens other c further = further
 unfoldable pub openSince : List Event → ℕ → Bool
 openSince [] c = false
 openSince (e ∷ past) c = opens (deed e) c (openSince past c)
-
--- how many of the listed addresses pass a test
-unfoldable pub count : (ℕ → Bool) → List ℕ → ℕ
-count test [] = 0
-count test (x ∷ xs) = cond (test x) (suc (count test xs)) (count test xs)
 
 module _ (past : List Event) (c : ℕ) where
   -- the addresses that the command has fetched since its begin: how many of all addresses, and how many of a span

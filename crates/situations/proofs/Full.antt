@@ -11,7 +11,7 @@ use borrow.Author.Tests.{eq-eqb}
 use Rattle.octets.specs.Lists.{all}
 use Rattle.octets.proofs.Lists.{both}
 use Rattle.state.specs.declared.Record.{Record}
-use Rattle.state.specs.Records.{held, span, total, countFresh, keep, lowest, highest, joined}
+use Rattle.state.specs.Records.{held, span, total, countFresh, countHeld, keep, lowest, highest, joined}
 use Rattle.state.specs.State.{State, freshState, open-with, withCommand, recordsOf, ascending, commandHolds, holds}
 use Rattle.state.specs.Verdict.{Reply, refused, replied, accepted, verdict}
 use Rattle.state.proofs.Places.{map-read}
@@ -67,23 +67,23 @@ abbrev answer : State → (a n : ℕ) → Reply
 answer s a n = fetchSays s 32768 (length window) (length dest) 0 a n
 
 fill-answer : answer empty 0 4096 ≡ replied (4096 ∷ 0 ∷ [])
-unfolding window bytesOf dest fetchSays accepted verdict all ascending commandHolds holds total held span countFresh keep lowest highest joined
+unfolding window bytesOf dest fetchSays accepted verdict all ascending commandHolds holds total held span countFresh countHeld keep lowest highest joined
 fill-answer = refl
 
 again-answer : answer full 0 4096 ≡ replied (0 ∷ 4096 ∷ [])
-unfolding window bytesOf dest fetchSays accepted verdict all ascending commandHolds holds total held span countFresh keep lowest highest joined
+unfolding window bytesOf dest fetchSays accepted verdict all ascending commandHolds holds total held span countFresh countHeld keep lowest highest joined
 again-answer = refl
 
 past-answer : answer full 4096 1 ≡ refused 23
-unfolding window bytesOf dest fetchSays accepted verdict all ascending commandHolds holds total held span countFresh keep lowest highest joined
+unfolding window bytesOf dest fetchSays accepted verdict all ascending commandHolds holds total held span countFresh countHeld keep lowest highest joined
 past-answer = refl
 
 fill-next : fetchState empty 32768 (length window) (length dest) 0 0 4096 ≡ full
-unfolding window bytesOf dest fetchState fetchSays accepted verdict all ascending commandHolds holds total held span countFresh keep lowest highest joined
+unfolding window bytesOf dest fetchState fetchSays accepted verdict all ascending commandHolds holds total held span countFresh countHeld keep lowest highest joined
 fill-next = refl
 
 again-next : fetchState full 32768 (length window) (length dest) 0 0 4096 ≡ full
-unfolding window bytesOf dest fetchState fetchSays accepted verdict all ascending commandHolds holds total held span countFresh keep lowest highest joined
+unfolding window bytesOf dest fetchState fetchSays accepted verdict all ascending commandHolds holds total held span countFresh countHeld keep lowest highest joined
 again-next = refl
 
 module _ (m : Machine) (s : State) (is : m .state ≡ s) (size : length (m .store) ≡ 32768) where

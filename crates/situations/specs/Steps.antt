@@ -7,7 +7,7 @@ use mathlib.Core.Bool.{Bool, true, false, _&&_}
 use lib.Dec.{eqb}
 use Rattle.octets.specs.Lists.{all}
 use Rattle.state.specs.declared.Record.{Record}
-use Rattle.state.specs.Records.{held, span, addresses, total, place, countFresh, keep, lowest, highest, joined}
+use Rattle.state.specs.Records.{held, span, addresses, total, place, countFresh, countHeld, keep, lowest, highest, joined}
 use Rattle.state.specs.State.{recordsOf, ascending, commandHolds, holds}
 use Rattle.state.specs.Verdict.{Reply, refused, replied, accepted, verdict}
 use Rattle.cache.specs.Begin.{beginSays, beginState, beginStore}
@@ -60,7 +60,7 @@ asExpected same (is y) x = same y x
 
 -- does each step give what it must, the machine handed on from one to the next?
 unfoldable pub passes : Machine → List Step → Bool
-unfolding sameNumbers sameAnswer sameRecords asExpected readSays fieldsSay fieldsOf dataSize notZero zeroBroken ownWindow beginSays beginState beginStore fetchSays fetchState fetchStore fetchDest ownSays accepted verdict all ascending commandHolds holds total held span countFresh keep lowest highest joined addresses place
+unfolding sameNumbers sameAnswer sameRecords asExpected readSays fieldsSay fieldsOf dataSize notZero zeroBroken ownWindow beginSays beginState beginStore fetchSays fetchState fetchStore fetchDest ownSays accepted verdict all ascending commandHolds holds total held span countFresh countHeld keep lowest highest joined addresses place
 passes m [] = true
 passes m (reads frame answer ∷ ts) = sameAnswer answer (readSays frame) && passes m ts
 passes m (calls t ∷ ts) =
