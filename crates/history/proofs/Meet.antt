@@ -3,22 +3,21 @@ use Prim.Native.Nat.{ℕ, _+_, _-_, _≤_, _<_}
 use native.Mathlib.Omega.{arith}
 use mathlib.Core.Path.{_≡_, refl, ap, sym, _∙_}
 use mathlib.Core.List.{List, [], _∷_, _++_}
-use mathlib.Core.Logic.{_↔_, _≢_}
 use mathlib.Core.Bool.{Bool, true, false}
 use lib.Dec.{ltb}
 use lib.ListN.{length}
-use borrow.Author.Tests.{ltb-true, ltb-false, lt-ltb}
+use borrow.Author.Tests.{ltb-true, lt-ltb}
 use Rattle.octets.specs.Lists.{all}
 use Rattle.state.specs.declared.refusal.Refusal.the-variants.{TooManyBytes}
 use Rattle.state.specs.Limits.{heldLimit}
 use Rattle.state.specs.Refusals.{number}
 use Rattle.state.specs.Verdict.{Reply, refused, replied, Check, verdict, applying}
 use Rattle.state.proofs.Verdict.{never-given}
-use Rattle.cache.specs.Runs.{Call, fetch, Machine, start, ran, says}
+use Rattle.cache.specs.Runs.{fetch, Machine, start, ran, says}
 use Rattle.history.specs.Journal.{Event}
 use Rattle.history.specs.Firsts.{memory}
-use Rattle.history.specs.Counts.{freshSince}
-use Rattle.history.specs.Answers.{fetchedCount, againCount, firstCount, bytesFull, recordsFull, lowerChecks, answerOwed, eventsOf, spare, CountsMeet}
+use Rattle.history.specs.Answers.{fetchedCount, againCount, firstCount, bytesFull, recordsFull, lowerChecks, answerOwed, eventsOf}
+use Rattle.history.specs.Answers.{spare, CountsMeet}
 use Rattle.history.proofs.Stored.{K}
 use Rattle.history.proofs.Tied.{Tied, tied-start, tied-ran}
 use Rattle.history.proofs.Answers.{total-told, verdict-none, answer-here}
