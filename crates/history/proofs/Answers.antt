@@ -27,7 +27,7 @@ use Rattle.cache.specs.Runs.{Call, begin, fetch, end, hostWrite, ownWrite, show
 use Rattle.history.specs.Journal.{Event, event, told}
 use Rattle.history.specs.Firsts.{memory, fetchedSince}
 use Rattle.history.specs.Counts.{count}
-use Rattle.history.specs.Answers.{openSince, fetchedCount, againCount, firstCount, runsOf, runsWith, bytesFull, recordsFull, noSuchRun}
+use Rattle.history.specs.Answers.{openSince, fetchedCount, replayCount, firstCount, runsOf, runsWith, bytesFull, recordsFull, noSuchRun}
 use Rattle.history.specs.Answers.{answerOwed, answersOwed, AnswersTold, answersGiven, CallsGiveAnswers}
 use Rattle.history.proofs.Stored.{memory-search, held-known, K}
 use Rattle.history.proofs.Tied.{Tied, tied-start, tied-after}
@@ -87,7 +87,7 @@ module _ (storeLen : ℕ) (m : Machine) (past : List Event) (T : Tied storeLen m
   fresh-told : (a n : ℕ) → fresh rs a n ≡ firstCount past c a n
   fresh-told a n = count-fresh rs (span a n) ∙ ap (λ (f : ℕ → Bool). count (λ x. not (f x)) (span a n)) held-since
 
-  replayed-told : (a n : ℕ) → replayed rs a n ≡ againCount past c a n
+  replayed-told : (a n : ℕ) → replayed rs a n ≡ replayCount past c a n
   replayed-told a n = count-held rs (span a n) ∙ ap (λ (f : ℕ → Bool). count f (span a n)) held-since
 
   runs-told : rs ≡ runsOf past c
@@ -107,7 +107,7 @@ module _ (storeLen : ℕ) (m : Machine) (past : List Event) (T : Tied storeLen m
   no-such-told i = ap (λ (ts : List Record). noSuchRecord ts i) runs-told
 
   -- and the replies
-  fetch-told : (a n : ℕ) → replied (fresh rs a n ∷ replayed rs a n ∷ []) ≡ replied (firstCount past c a n ∷ againCount past c a n ∷ [])
+  fetch-told : (a n : ℕ) → replied (fresh rs a n ∷ replayed rs a n ∷ []) ≡ replied (firstCount past c a n ∷ replayCount past c a n ∷ [])
   fetch-told a n = rw (fresh-told a n, replayed-told a n)
 
   end-told : replied (length rs ∷ total rs ∷ []) ≡ replied (length (runsOf past c) ∷ fetchedCount past c ∷ [])
@@ -159,7 +159,7 @@ module _ (storeLen : ℕ) (m : Machine) (past : List Event) (T : Tied storeLen m
       behind : isOpen s c ≡ true → ltb windowLimit (length window) ≡ false → ltb (length window) (a + n) ≡ false
           → verdict (tooManyBytes (recordsOf s c) a n ∷ tooManyRecords (recordsOf s c) a n ∷ [])
           (replied (fresh (recordsOf s c) a n ∷ replayed (recordsOf s c) a n ∷ []))
-          ≡ verdict (bytesFull past c a n ∷ recordsFull past c a n ∷ []) (replied (firstCount past c a n ∷ againCount past c a n ∷ []))
+          ≡ verdict (bytesFull past c a n ∷ recordsFull past c a n ∷ []) (replied (firstCount past c a n ∷ replayCount past c a n ∷ []))
       behind o low inside =
           let fits : a + n ≤ windowLimit = omega (arith, ltb-false windowLimit (length window) low, ltb-false (length window) (a + n) inside) in
           ap₂ (λ k r. verdict k r)

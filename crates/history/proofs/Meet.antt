@@ -16,7 +16,7 @@ use Rattle.state.proofs.Verdict.{never-given}
 use Rattle.cache.specs.Runs.{fetch, Machine, start, ran, says}
 use Rattle.history.specs.Journal.{Event}
 use Rattle.history.specs.Firsts.{memory}
-use Rattle.history.specs.Answers.{fetchedCount, againCount, firstCount, bytesFull, recordsFull, lowerChecks, answerOwed, eventsOf}
+use Rattle.history.specs.Answers.{fetchedCount, replayCount, firstCount, bytesFull, recordsFull, lowerChecks, answerOwed, eventsOf}
 use Rattle.history.specs.Answers.{spare, CountsMeet}
 use Rattle.history.proofs.Stored.{K}
 use Rattle.history.proofs.Tied.{Tied, tied-start, tied-ran}
@@ -34,7 +34,7 @@ none-pass (c ∷ cs) ds r e = go (c .applies) refl (none-pass cs ds r)
 
 module _ (past : List Event) (c a n : ℕ) (small : fetchedCount past c ≤ heldLimit) where
   abbrev judged : Reply
-  judged = verdict (bytesFull past c a n ∷ recordsFull past c a n ∷ []) (replied (firstCount past c a n ∷ againCount past c a n ∷ []))
+  judged = verdict (bytesFull past c a n ∷ recordsFull past c a n ∷ []) (replied (firstCount past c a n ∷ replayCount past c a n ∷ []))
 
   full-spare : judged ≡ refused (number TooManyBytes) → spare past c < firstCount past c a n
   full-spare e = go (ltb heldLimit (fetchedCount past c + firstCount past c a n)) refl

@@ -19,7 +19,7 @@ use Rattle.cache.specs.Runs.{Call, begin, fetch, end, hostWrite, ownWrite, show
 use Rattle.history.specs.Journal.{Event, journal, told, backwards, deed}
 use Rattle.history.specs.Firsts.{remember, memory, finds, fetchedSince, First, firstsAmong, firstsBy, firsts, owedBy, owed}
 use Rattle.history.specs.Counts.{count, countsBy, countsOwed, add, freshSince, sumOwed}
-use Rattle.history.specs.Answers.{opens, openSince, againCount, firstCount, answerOwed}
+use Rattle.history.specs.Answers.{opens, openSince, replayCount, firstCount, answerOwed}
 use Rattle.history.specs.Claims.{renews, mayChange, common}
 
 abbrev dest : List ℕ
@@ -94,7 +94,7 @@ unfolding open-now answerOwed verdict
 owed-now = refl
 
 -- of the span 0+3 command 2 has fetched the first address, and of 1 and 2 it would have first fetches
-counts-now : againCount past 2 0 3 ∷ firstCount past 2 0 3 ∷ [] ≡ 1 ∷ 2 ∷ []
+counts-now : replayCount past 2 0 3 ∷ firstCount past 2 0 3 ∷ [] ≡ 1 ∷ 2 ∷ []
 unfolding run backwards finds fetchedSince accepted count span
 counts-now = refl
 

@@ -38,8 +38,8 @@ module _ (past : List Event) (c : ℕ) where
   abbrev pub fetchedCount : ℕ
   fetchedCount = count (fetchedSince past c) (span 0 windowLimit)
 
-  abbrev pub againCount : (a n : ℕ) → ℕ
-  againCount a n = count (fetchedSince past c) (span a n)
+  abbrev pub replayCount : (a n : ℕ) → ℕ
+  replayCount a n = count (fetchedSince past c) (span a n)
 
   -- and how many of a span it has not fetched: its first fetches, if the span is fetched now
   abbrev pub firstCount : (a n : ℕ) → ℕ
@@ -52,49 +52,61 @@ module _ (past : List Event) (c : ℕ) where
   abbrev pub runsWith : (a n : ℕ) → List Record
   runsWith a n = runs (λ x. fetchedSince past c x || inSpan a n x)
 
-  -- 21, 22, 23, 24 and 25 of 01, told from the events before
+  -- 21: the command is not open
   abbrev pub notOpen : Check
   notOpen = not (openSince past c) ⇒ number CommandNotOpen
 
+  -- 22: the command is open already
   abbrev pub alreadyOpen : Check
   alreadyOpen = openSince past c ⇒ number CommandAlreadyOpen
 
+  -- 23: with the first fetches of the span it would have fetched more than 4,096 addresses
   abbrev pub bytesFull : (a n : ℕ) → Check
   bytesFull a n = ltb heldLimit (fetchedCount + firstCount a n) ⇒ number TooManyBytes
 
+  -- 24: with the span there would be more than 64 runs
   abbrev pub recordsFull : (a n : ℕ) → Check
   recordsFull a n = ltb recordLimit (length (runsWith a n)) ⇒ number TooManyRecords
 
+  -- 25: there is no run of this number
   abbrev pub noSuchRun : ℕ → Check
   noSuchRun i = leb (length runsOf) i ⇒ number NoSuchRecord
 
 module _ (storeLen : ℕ) (past : List Event) where
-  -- a fetch's numbers below 23, judged by its numbers, the lengths and whether its command is open
+  -- the checks of a fetch below 23: 4, 6 to 10, 21
   abbrev pub lowerChecks : (c a n destLen windowLen : ℕ) → List Check
   lowerChecks c a n destLen windowLen =
       lengthTooLong n ∷ commandTooHigh c ∷ windowTooLong windowLen ∷ storeWrongSize storeLen ∷ outsideWindow windowLen a n
       ∷ bufferTooShort destLen n ∷ notOpen past c ∷ []
 
-  -- What a call is owed: 01's number of the first check that applies, else 01's reply. 20 is in no list, for it is never given.
+  -- What a call is owed: the number of the first check that applies, in the order of 01's numbers, and the reply where none does. 20 is in no
+  -- list, so it is never given.
   unfoldable pub answerOwed : Call → Reply
+  -- 6, 8, 22; begin replies nothing
   answerOwed (begin c) = verdict (commandTooHigh c ∷ storeWrongSize storeLen ∷ alreadyOpen past c ∷ []) (replied [])
+  -- 4, 6 to 10, 21, 23, 24; fresh and replayed
   answerOwed (fetch c a n dest window) =
       verdict (lowerChecks c a n (length dest) (length window) ++ bytesFull past c a n ∷ recordsFull past c a n ∷ [])
-      (replied (firstCount past c a n ∷ againCount past c a n ∷ []))
+      (replied (firstCount past c a n ∷ replayCount past c a n ∷ []))
+  -- 6, 8, 21; the number of records and of distinct bytes
   answerOwed (end c) =
       verdict (commandTooHigh c ∷ storeWrongSize storeLen ∷ notOpen past c ∷ []) (replied (length (runsOf past c) ∷ fetchedCount past c ∷ []))
+  -- 4, 7, 9; the number of bytes
   answerOwed (hostWrite a bytes window) =
       verdict (lengthTooLong (length bytes) ∷ windowTooLong (length window) ∷ outsideWindow (length window) a (length bytes) ∷ [])
       (replied (length bytes ∷ []))
+  -- 4, 6, 7, 9, 21; the number of bytes
   answerOwed (ownWrite c a bytes window) =
       verdict
       (lengthTooLong (length bytes) ∷ commandTooHigh c ∷ windowTooLong (length window) ∷ outsideWindow (length window) a (length bytes)
       ∷ notOpen past c ∷ [])
       (replied (length bytes ∷ []))
+  -- 6, 21, 25; start and length
   answerOwed (show c i) =
       let r = getD (runsOf past c) i noRecord in
       verdict (commandTooHigh c ∷ notOpen past c ∷ noSuchRun past c i ∷ []) (replied (r .start ∷ r .len ∷ []))
 
+  -- at an event, of which the call is looked at and not the answer
   abbrev pub answersOwed : Event → Reply
   answersOwed e = answerOwed (e .call)
 
