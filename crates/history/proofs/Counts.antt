@@ -87,7 +87,8 @@ Sums p sums c = p .opened ≡ true → sums c ≡ total (recordsIn p)
 pub record Summed (m : Machine) (sums : ℕ → ℕ) : Type 0 where
   pub sum : (c : ℕ) → Sums (commandOf (m .state) c) sums c
 
-module _ (m : Machine) (c : ℕ) (next : CommandState) (bytes : List ℕ) (mem : Memory) (S : Sound m mem) (F : Fits m c next bytes) (sums then : ℕ → ℕ) (C : Summed m sums)
+module _ (m : Machine) (c : ℕ) (next : CommandState) (bytes : List ℕ) (mem : Memory) (S : Sound m mem) (F : Fits m c next bytes)
+    (sums then : ℕ → ℕ) (C : Summed m sums)
     (others : (d : ℕ) → d ≢ c → then d ≡ sums d) (own : Sums next then c) where
   summed-replaced : Summed (replaced m c next bytes) then
   summed-replaced = record { sum = each }
@@ -98,7 +99,8 @@ module _ (m : Machine) (c : ℕ) (next : CommandState) (bytes : List ℕ) (mem :
           go : (b : Bool) → eqb d c ≡ b → Sums (commandOf (withCommand (m .state) c next) d) then d
           go true e =
               subst (λ (k : ℕ). Sums (commandOf (withCommand (m .state) c next) k) then k) (sym (eqb-true d c e))
-              (subst (λ (p : CommandState). Sums p then c) (sym (command-same (m .state) c next (omega (arith, eight (m .state) (S .state .shape), F .command)))) own)
+              (subst (λ (p : CommandState). Sums p then c)
+              (sym (command-same (m .state) c next (omega (arith, eight (m .state) (S .state .shape), F .command)))) own)
           go false e =
               let apart = eqb-false d c e in
               subst (λ (p : CommandState). Sums p then d) (sym (command-other (m .state) c next d apart)) (λ o. others d apart ∙ C .sum d o)
@@ -116,7 +118,12 @@ summed-after m mem sums (fetch c a n dest window) true e S C =
     rw (fetch-after m c a n dest window e)
     (summed-replaced m c (open-with (grown m c a n)) (packed m c a n window) mem S (packed-fits m c a n dest window F) sums _ C
     (λ d apart. rw (ne-eqb d c apart))
-    (λ o. rw (eq-eqb c c refl, records-open-with (grown m c a n), fetched-reply (m .state) (length (m .store)) (length window) (length dest) c a n e, C .sum c (F .opened))
+    (λ o. rw (
+      eq-eqb c c refl,
+      records-open-with (grown m c a n),
+      fetched-reply (m .state) (length (m .store)) (length window) (length dest) c a n e,
+      C .sum c (F .opened),
+    )
     (sym (total-joined (old m c) a n (kept (m .state) c (F .whole) .up)))))
 summed-after m mem sums (end c) true e S C =
     rw (end-after m c e) (summed-replaced m c closed zeros mem S (end-fits m c e) sums sums C (λ d apart. refl) (λ o. absurd (false≢true o)))

@@ -7,7 +7,6 @@ use mathlib.Core.List.{List, [], _∷_, map}
 use mathlib.Core.Bool.{Bool, true, false, cond, _&&_}
 use lib.Dec.{eqb}
 use lib.ListN.{length, getD}
-use Rattle.octets.specs.Lists.{part}
 use Rattle.state.specs.declared.Record.{Record}
 use Rattle.state.specs.Records.{inSpan, held, place, addresses, total}
 use Rattle.state.specs.State.{commandOf, recordsOf, isOpen}

@@ -49,7 +49,8 @@ calls : List Call
 calls = map (λ e. e .call) run
 
 is-run : journal (replicate 32768 3) calls ≡ run
-unfolding run calls along beginSays beginState beginStore fetchSays fetchState fetchStore endSays endState endStore verdict accepted all ascending commandHolds holds total held span countFresh countHeld keep lowest highest joined addresses place
+unfolding run calls along beginSays beginState beginStore fetchSays fetchState fetchStore endSays endState endStore verdict accepted
+    all ascending commandHolds holds total held span countFresh countHeld keep lowest highest joined addresses place
 is-run = refl
 
 abbrev _↦↦_ : ℕ → ℕ → First
