@@ -2,7 +2,7 @@
 use Prim.Native.Nat.{ℕ, suc, _+_, _≤_}
 use native.Mathlib.Omega.{arith}
 use mathlib.Core.Path.{_≡_, refl, ap, ap₂, fun-ext, _∙_}
-use mathlib.Core.List.{List, [], _∷_}
+use mathlib.Core.List.{List, [], _∷_, _++_}
 use mathlib.Core.Bool.{Bool, true, false, cond, not, _||_}
 use lib.Dec.{ltb}
 use lib.ListN.{length, getD}
@@ -13,9 +13,12 @@ use Rattle.state.specs.Records.{past as pastRecord, inSpan, held, span, total, 
 use Rattle.state.specs.Runs.{runs}
 use Rattle.state.specs.State.{State, recordsOf, isOpen, ascending, holds, noRecord}
 use Rattle.state.specs.Verdict.{Reply, replied, Check, _⇒_, verdict}
+use Rattle.state.specs.Checks.{lengthTooLong, commandTooHigh, windowTooLong, storeWrongSize, outsideWindow, bufferTooShort}
 use Rattle.state.specs.Checks.{tooManyBytes, tooManyRecords, noSuchRecord}
 use Rattle.state.proofs.Cases.{ascends}
 use Rattle.state.proofs.Places.{place-low, fresh-place, counts-fill}
+use Rattle.state.proofs.Commands.{kept}
+use Rattle.state.proofs.Verdict.{AllFalse}
 use Rattle.state.proofs.Runs.{records-runs, joined-runs}
 use Rattle.cache.specs.Begin.{beginSays}
 use Rattle.cache.specs.Fetch.{fetchSays}
@@ -27,9 +30,9 @@ use Rattle.cache.specs.Runs.{Call, begin, fetch, end, hostWrite, ownWrite, show
 use Rattle.history.specs.Journal.{Event, event, told}
 use Rattle.history.specs.Firsts.{memory, fetchedSince}
 use Rattle.history.specs.Counts.{count}
-use Rattle.history.specs.Answers.{openSince, fetchedCount, replayCount, firstCount, runsOf, runsWith, bytesFull, recordsFull, noSuchRun}
+use Rattle.history.specs.Answers.{openSince, fetchedCount, replayCount, firstCount, runsOf, runsWith, notOpen, bytesFull, recordsFull, noSuchRun}
 use Rattle.history.specs.Answers.{answerOwed, answersOwed, AnswersTold, answersGiven, CallsGiveAnswers}
-use Rattle.history.proofs.Stored.{memory-search, held-known, K}
+use Rattle.history.proofs.Stored.{memory-search, held-known}
 use Rattle.history.proofs.Tied.{Tied, tied-start, tied-after}
 
 -- Counts of addresses, and of records
@@ -71,12 +74,12 @@ shown rs i = let r = getD rs i noRecord in replied (r .start ∷ r .len ∷ [])
 
 -- What an open command has is told from the events.
 
-module _ (storeLen : ℕ) (m : Machine) (past : List Event) (T : Tied storeLen m past) (c : ℕ) (o : isOpen (m .state) c ≡ true) where
+module _ {storeLen : ℕ} {m : Machine} {past : List Event} (T : Tied storeLen m past) (c : ℕ) (o : isOpen (m .state) c ≡ true) where
   abbrev rs : List Record
   rs = recordsOf (m .state) c
 
   up : ascending 0 rs ≡ true
-  up = K m (memory past) (T .sound) c o .up
+  up = kept (m .state) c (T .sound .state .whole) .up
 
   held-since : held rs ≡ fetchedSince past c
   held-since = fun-ext λ x. held-known m (memory past) (T .sound) c o x ∙ memory-search past c x
@@ -116,21 +119,25 @@ module _ (storeLen : ℕ) (m : Machine) (past : List Event) (T : Tied storeLen m
   show-told : (i : ℕ) → shown rs i ≡ shown (runsOf past c) i
   show-told i = ap (λ (ts : List Record). shown ts i) runs-told
 
--- A check that both lists have: what follows it matters where it does not apply.
-verdict-same : (b : Bool) (k : ℕ) (cs ds : List Check) (r t : Reply) → (b ≡ false → verdict cs r ≡ verdict ds t)
-    → verdict (b ⇒ k ∷ cs) r ≡ verdict (b ⇒ k ∷ ds) t
+-- Two lists of checks that begin alike: what is behind matters where none of the first applies.
+checks-behind : (cs ds es : List Check) (r t : Reply) → (AllFalse cs → verdict ds r ≡ verdict es t) → verdict (cs ++ ds) r ≡ verdict (cs ++ es) t
 unfolding verdict
-verdict-same true k cs ds r t h = refl
-verdict-same false k cs ds r t h = h refl
+checks-behind [] ds es r t h = h tt
+checks-behind (c ∷ cs) ds es r t h = go (c .applies) refl (checks-behind cs ds es r t)
+  where
+    go : (b : Bool) → c .applies ≡ b → ((AllFalse cs → verdict ds r ≡ verdict es t) → verdict (cs ++ ds) r ≡ verdict (cs ++ es) t)
+        → verdict (c ∷ cs ++ ds) r ≡ verdict (c ∷ cs ++ es) t
+    go true e ih = rw e
+    go false e ih = rw e (ih (λ f. h (e, f)))
 
--- and one that never applies
-pub verdict-none : (k : ℕ) (cs : List Check) (r : Reply) → verdict (false ⇒ k ∷ cs) r ≡ verdict cs r
+-- a check that does not apply
+pub not-applying : (k : ℕ) (cs : List Check) (r : Reply) → verdict (false ⇒ k ∷ cs) r ≡ verdict cs r
 unfolding verdict
-verdict-none k cs r = refl
+not-applying k cs r = refl
 
 -- One call
 
-module _ (storeLen : ℕ) (m : Machine) (past : List Event) (T : Tied storeLen m past) where
+module _ {storeLen : ℕ} {m : Machine} {past : List Event} (T : Tied storeLen m past) where
   abbrev s : State
   s = m .state
 
@@ -148,13 +155,10 @@ module _ (storeLen : ℕ) (m : Machine) (past : List Event) (T : Tied storeLen m
   unfolding answerOwed fetchSays
   fetch-owed c a n dest window =
       rw (T .size, whole, T .opened c)
-      (verdict-same _ _ _ _ _ _ λ _.
-      verdict-same _ _ _ _ _ _ λ _.
-      verdict-same _ _ _ _ _ _ λ low.
-      verdict-same _ _ _ _ _ _ λ _.
-      verdict-same _ _ _ _ _ _ λ inside.
-      verdict-same _ _ _ _ _ _ λ _.
-      verdict-none _ _ _ ∙ verdict-same _ _ _ _ _ _ λ h. behind (opened-told c h) low inside)
+      (checks-behind
+      (lengthTooLong n ∷ commandTooHigh c ∷ windowTooLong (length window) ∷ storeWrongSize storeLen ∷ outsideWindow (length window) a n
+      ∷ bufferTooShort (length dest) n ∷ []) _ _ _ _ λ f.
+      not-applying 20 _ _ ∙ checks-behind (notOpen past c ∷ []) _ _ _ _ λ h. behind (opened-told c (h .0)) (f .1 .1 .0) (f .1 .1 .1 .1 .0))
     where
       behind : isOpen s c ≡ true → ltb windowLimit (length window) ≡ false → ltb (length window) (a + n) ≡ false
           → verdict (tooManyBytes (recordsOf s c) a n ∷ tooManyRecords (recordsOf s c) a n ∷ [])
@@ -163,16 +167,15 @@ module _ (storeLen : ℕ) (m : Machine) (past : List Event) (T : Tied storeLen m
       behind o low inside =
           let fits : a + n ≤ windowLimit = omega (arith, ltb-false windowLimit (length window) low, ltb-false (length window) (a + n) inside) in
           ap₂ (λ k r. verdict k r)
-          (ap₂ (λ b k. b ∷ k ∷ []) (bytes-full-told storeLen m past T c o a n) (records-full-told storeLen m past T c o a n fits))
-          (fetch-told storeLen m past T c o a n)
+          (ap₂ (λ b k. b ∷ k ∷ []) (bytes-full-told T c o a n) (records-full-told T c o a n fits))
+          (fetch-told T c o a n)
 
   end-owed : (c : ℕ) → says m (end c) ≡ answerOwed storeLen past (end c)
   unfolding answerOwed endSays
   end-owed c =
       rw (T .size, whole, T .opened c)
-      (verdict-same _ _ _ _ _ _ λ _.
-      verdict-same _ _ _ _ _ _ λ _.
-      verdict-none _ _ _ ∙ verdict-same _ _ _ _ _ _ λ h. ap (verdict []) (end-told storeLen m past T c (opened-told c h)))
+      (checks-behind (commandTooHigh c ∷ storeWrongSize storeLen ∷ []) _ _ _ _ λ _.
+      not-applying 20 _ _ ∙ checks-behind (notOpen past c ∷ []) _ _ _ _ λ h. ap (verdict []) (end-told T c (opened-told c (h .0))))
 
   own-owed : (c a : ℕ) (bytes window : List ℕ) → says m (ownWrite c a bytes window) ≡ answerOwed storeLen past (ownWrite c a bytes window)
   unfolding answerOwed ownSays verdict
@@ -182,10 +185,10 @@ module _ (storeLen : ℕ) (m : Machine) (past : List Event) (T : Tied storeLen m
   unfolding answerOwed showSays
   show-owed c i =
       rw (whole, T .opened c)
-      (verdict-same _ _ _ _ _ _ λ _.
-      verdict-none _ _ _
-      ∙ verdict-same _ _ _ _ _ _ λ h.
-      ap₂ (λ k r. verdict (k ∷ []) r) (no-such-told storeLen m past T c (opened-told c h) i) (show-told storeLen m past T c (opened-told c h) i))
+      (checks-behind (commandTooHigh c ∷ []) _ _ _ _ λ _.
+      not-applying 20 _ _
+      ∙ checks-behind (notOpen past c ∷ []) _ _ _ _ λ h.
+      ap₂ (λ k r. verdict (k ∷ []) r) (no-such-told T c (opened-told c (h .0)) i) (show-told T c (opened-told c (h .0)) i))
 
   pub answer-here : (p : Call) → says m p ≡ answerOwed storeLen past p
   unfolding answerOwed hostSays
@@ -201,7 +204,7 @@ answers-along : (storeLen : ℕ) (past : List Event) (m : Machine) (ps : List Ca
 unfolding told along
 answers-along storeLen past m [] T = refl
 answers-along storeLen past m (p ∷ ps) T =
-    ap₂ _∷_ (answer-here storeLen m past T p) (answers-along storeLen (event m p ∷ past) (after m p) ps (tied-after storeLen m past p T))
+    ap₂ _∷_ (answer-here T p) (answers-along storeLen (event m p ∷ past) (after m p) ps (tied-after storeLen m past p T))
 
 pub answers-told : AnswersTold
 answers-told store ps = answers-along (length store) [] (start store) ps (tied-start store)
@@ -213,7 +216,7 @@ given-along : (storeLen : ℕ) (past : List Event) (m : Machine) (ps : List Call
 unfolding along answersGiven
 given-along storeLen past m [] T = refl
 given-along storeLen past m (p ∷ ps) T =
-    let here = answer-here storeLen m past T p in
+    let here = answer-here T p in
     ap₂ _∷_ here
     (given-along storeLen (event m p ∷ past) (after m p) ps (tied-after storeLen m past p T)
     ∙ ap (λ (r : Reply). answersGiven storeLen (record { call = p; answer = r } ∷ past) ps) here)

@@ -13,14 +13,13 @@ use Rattle.state.specs.Limits.{heldLimit}
 use Rattle.state.specs.Refusals.{number}
 use Rattle.state.specs.Verdict.{Reply, refused, replied, Check, verdict, applying}
 use Rattle.state.proofs.Verdict.{never-given}
+use Rattle.state.proofs.Commands.{kept}
 use Rattle.cache.specs.Runs.{fetch, Machine, start, ran, says}
 use Rattle.history.specs.Journal.{Event}
-use Rattle.history.specs.Firsts.{memory}
 use Rattle.history.specs.Answers.{fetchedCount, replayCount, firstCount, bytesFull, recordsFull, lowerChecks, answerOwed, eventsOf}
 use Rattle.history.specs.Answers.{spare, CountsMeet}
-use Rattle.history.proofs.Stored.{K}
 use Rattle.history.proofs.Tied.{Tied, tied-start, tied-ran}
-use Rattle.history.proofs.Answers.{total-told, verdict-none, answer-here}
+use Rattle.history.proofs.Answers.{total-told, not-applying, answer-here}
 
 -- Where none of the first checks applies, those behind them are judged.
 none-pass : (cs ds : List Check) (r : Reply) → applying cs ≡ [] → verdict (cs ++ ds) r ≡ verdict ds r
@@ -41,7 +40,7 @@ module _ (past : List Event) (c a n : ℕ) (small : fetchedCount past c ≤ held
     where
       go : (b : Bool) → ltb heldLimit (fetchedCount past c + firstCount past c a n) ≡ b → spare past c < firstCount past c a n
       go true h = omega (arith, ltb-true heldLimit (fetchedCount past c + firstCount past c a n) h)
-      go false h = absurd (never-given 23 (recordsFull past c a n ∷ []) _ (unfold all in refl) (sym (verdict-none 23 _ _) ∙ rw h at e))
+      go false h = absurd (never-given 23 (recordsFull past c a n ∷ []) _ (unfold all in refl) (sym (not-applying 23 _ _) ∙ rw h at e))
 
   spare-full : spare past c < firstCount past c a n → judged ≡ refused (number TooManyBytes)
   unfolding verdict
@@ -54,7 +53,7 @@ judged-here :
     → says m (fetch c a n dest window) ≡ judged past c a n small
 unfolding answerOwed
 judged-here storeLen m past T c a n dest window none small =
-    answer-here storeLen m past T (fetch c a n dest window)
+    answer-here T (fetch c a n dest window)
     ∙ none-pass (lowerChecks storeLen past c a n (length dest) (length window)) (bytesFull past c a n ∷ recordsFull past c a n ∷ []) _ none
 
 pub counts-meet : CountsMeet
@@ -62,9 +61,9 @@ counts-meet store ps c o =
     let past = eventsOf store ps in
     let m = ran (start store) ps in
     let T = tied-ran (length store) (start store) [] ps (tied-start store) in
-    let bytes = total-told (length store) m past T c o in
+    let bytes = total-told T c o in
     let sum = T .summed .sum c o in
-    let small : fetchedCount past c ≤ heldLimit = omega (arith, bytes, K m (memory past) (T .sound) c o .small) in
+    let small : fetchedCount past c ≤ heldLimit = omega (arith, bytes, kept (m .state) c (T .sound .state .whole) .small) in
     record {
       held = bytes;
       handedOut = sym (sum ∙ bytes);

@@ -57,7 +57,7 @@ module _ (m : Machine) (mem : Memory) (S : Sound m mem) (c : ℕ) (o : isOpen (m
   pub held-known : (x : ℕ) → held rs x ≡ isKnown (mem c x)
   held-known x = rw (S .known c x o) (known-held (held rs x) (getD (m .store) (partStart c + place rs x) 0))
 
-  pub K : Kept (commandOf (m .state) c)
+  K : Kept (commandOf (m .state) c)
   K = kept (m .state) c (S .state .whole)
 
   part-fits : partStart c + total rs ≤ length (m .store)
