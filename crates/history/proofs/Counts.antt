@@ -20,8 +20,8 @@ use Rattle.store.specs.Store.{location}
 use Rattle.cache.proofs.Accepted.{ended-open, ended-reply, fetched, fetched-reply}
 use Rattle.cache.specs.Runs.{Call, begin, fetch, end, hostWrite, ownWrite, show, Machine, start, says, after, along}
 use Rattle.history.specs.Journal.{Event, event, told, deedOf}
-use Rattle.history.specs.Firsts.{Value, Memory, memory, firstsAmong}
-use Rattle.history.specs.Counts.{countsIn, countsReplied, countKnown, countsBy, countsOwed, bytesIn, bytesReplied, add, freshSince, sumBy, sumOwed}
+use Rattle.history.specs.Firsts.{Value, Memory, memory, isKnown, firstsAmong}
+use Rattle.history.specs.Counts.{countsIn, countsReplied, count, countsBy, countsOwed, bytesIn, bytesReplied, add, freshSince, sumBy, sumOwed}
 use Rattle.history.specs.Claims.{CountsTie, EndSum}
 use Rattle.history.proofs.Replaced.{replaced, Fits}
 use Rattle.history.proofs.Effects.{refused-same, old, grown, packed, zeros, begin-after, end-after, fetch-after, begin-fits, end-fits, packed-fits}
@@ -40,12 +40,13 @@ module _ (rs : List Record) (location : ℕ → ℕ) (store window : List ℕ) (
       go true h ih = rw (h, same x, h) ih
       go false h ih = rw (h, same x, h) (ap suc ih)
 
-  count-known : (xs : List ℕ) → countHeld rs xs ≡ countKnown known xs
-  unfolding countHeld countKnown
+  count-known : (xs : List ℕ) → countHeld rs xs ≡ count (λ x. isKnown (known x)) xs
+  unfolding countHeld count
   count-known [] = refl
   count-known (x ∷ xs) = go (held rs x) refl (count-known xs)
     where
-      go : (b : Bool) → held rs x ≡ b → countHeld rs xs ≡ countKnown known xs → countHeld rs (x ∷ xs) ≡ countKnown known (x ∷ xs)
+      go : (b : Bool) → held rs x ≡ b → countHeld rs xs ≡ count (λ y. isKnown (known y)) xs
+          → countHeld rs (x ∷ xs) ≡ count (λ y. isKnown (known y)) (x ∷ xs)
       go true h ih = rw (h, same x, h) (ap suc ih)
       go false h ih = rw (h, same x, h) ih
 
@@ -80,13 +81,14 @@ counts-tie store ps = counts-along [] (start store) ps (sound-start store)
 
 -- The bytes that an open command holds are the sum of its fresh counts.
 
-abbrev Sums : CommandState → (ℕ → ℕ) → ℕ → Type 0
+abbrev pub Sums : CommandState → (ℕ → ℕ) → ℕ → Type 0
 Sums p sums c = p .opened ≡ true → sums c ≡ total (recordsIn p)
 
-record Summed (m : Machine) (sums : ℕ → ℕ) : Type 0 where
-  sum : (c : ℕ) → Sums (commandOf (m .state) c) sums c
+pub record Summed (m : Machine) (sums : ℕ → ℕ) : Type 0 where
+  pub sum : (c : ℕ) → Sums (commandOf (m .state) c) sums c
 
-module _ (m : Machine) (c : ℕ) (next : CommandState) (bytes : List ℕ) (mem : Memory) (S : Sound m mem) (F : Fits m c next bytes) (sums then : ℕ → ℕ) (C : Summed m sums)
+module _ (m : Machine) (c : ℕ) (next : CommandState) (bytes : List ℕ) (mem : Memory) (S : Sound m mem) (F : Fits m c next bytes)
+    (sums then : ℕ → ℕ) (C : Summed m sums)
     (others : (d : ℕ) → d ≢ c → then d ≡ sums d) (own : Sums next then c) where
   summed-replaced : Summed (replaced m c next bytes) then
   summed-replaced = record { sum = each }
@@ -97,12 +99,13 @@ module _ (m : Machine) (c : ℕ) (next : CommandState) (bytes : List ℕ) (mem :
           go : (b : Bool) → eqb d c ≡ b → Sums (commandOf (withCommand (m .state) c next) d) then d
           go true e =
               subst (λ (k : ℕ). Sums (commandOf (withCommand (m .state) c next) k) then k) (sym (eqb-true d c e))
-              (subst (λ (p : CommandState). Sums p then c) (sym (command-same (m .state) c next (omega (arith, eight (m .state) (S .state .shape), F .command)))) own)
+              (subst (λ (p : CommandState). Sums p then c)
+              (sym (command-same (m .state) c next (omega (arith, eight (m .state) (S .state .shape), F .command)))) own)
           go false e =
               let apart = eqb-false d c e in
               subst (λ (p : CommandState). Sums p then d) (sym (command-other (m .state) c next d apart)) (λ o. others d apart ∙ C .sum d o)
 
-summed-after :
+pub summed-after :
     (m : Machine) (mem : Memory) (sums : ℕ → ℕ) (p : Call) (b : Bool) → accepted (says m p) ≡ b → Sound m mem → Summed m sums
     → Summed (after m p) (add sums (says m p) (deedOf b p))
 unfolding add total
@@ -115,7 +118,12 @@ summed-after m mem sums (fetch c a n dest window) true e S C =
     rw (fetch-after m c a n dest window e)
     (summed-replaced m c (open-with (grown m c a n)) (packed m c a n window) mem S (packed-fits m c a n dest window F) sums _ C
     (λ d apart. rw (ne-eqb d c apart))
-    (λ o. rw (eq-eqb c c refl, records-open-with (grown m c a n), fetched-reply (m .state) (length (m .store)) (length window) (length dest) c a n e, C .sum c (F .opened))
+    (λ o. rw (
+      eq-eqb c c refl,
+      records-open-with (grown m c a n),
+      fetched-reply (m .state) (length (m .store)) (length window) (length dest) c a n e,
+      C .sum c (F .opened),
+    )
     (sym (total-joined (old m c) a n (kept (m .state) c (F .whole) .up)))))
 summed-after m mem sums (end c) true e S C =
     rw (end-after m c e) (summed-replaced m c closed zeros mem S (end-fits m c e) sums sums C (λ d apart. refl) (λ o. absurd (false≢true o)))
@@ -144,6 +152,8 @@ sums-along past m (p ∷ ps) S C =
     ap₂ _∷_ (sum-here m (freshSince past) p ok refl C)
     (sums-along (event m p ∷ past) (after m p) ps (sound-after m (memory past) p ok refl S) (summed-after m (memory past) (freshSince past) p ok refl S C))
 
+pub summed-start : (store : List ℕ) → Summed (start store) (freshSince [])
+summed-start store = record { sum = λ c o. absurd (false≢true (rw (getD-same commandLimit c closed) at o)) }
+
 pub end-sum : EndSum
-end-sum store ps =
-    sums-along [] (start store) ps (sound-start store) (record { sum = λ c o. absurd (false≢true (rw (getD-same commandLimit c closed) at o)) })
+end-sum store ps = sums-along [] (start store) ps (sound-start store) (summed-start store)

@@ -61,7 +61,8 @@ module _ (m : Machine) (c : ℕ) where
 
 -- Each replacement fits.
 
-module _ (m : Machine) (c : ℕ) (R : Ready (m .state) (length (m .store)) c) (next : CommandState) (h : commandHolds next ≡ true) (k : length (next .records) ≡ recordLimit) where
+module _ (m : Machine) (c : ℕ) (R : Ready (m .state) (length (m .store)) c) (next : CommandState)
+    (h : commandHolds next ≡ true) (k : length (next .records) ≡ recordLimit) where
   zeros-fit : Fits m c next zeros
   zeros-fit = record {
     command = R .command;
@@ -75,7 +76,8 @@ module _ (m : Machine) (c : ℕ) (R : Ready (m .state) (length (m .store)) c) (n
 pub begin-fits : (m : Machine) (c : ℕ) → accepted (says m (begin c)) ≡ true → Fits m c (open-with []) zeros
 unfolding ascending total
 begin-fits m c e =
-    zeros-fit m c (begun (m .state) (length (m .store)) c e) (open-with []) (open-with-holds [] (omega arith) refl (omega arith)) (length-open-with [] (omega arith))
+    zeros-fit m c (begun (m .state) (length (m .store)) c e) (open-with [])
+    (open-with-holds [] (omega arith) refl (omega arith)) (length-open-with [] (omega arith))
 
 pub end-fits : (m : Machine) (c : ℕ) → accepted (says m (end c)) ≡ true → Fits m c closed zeros
 end-fits m c e = zeros-fit m c (ended (m .state) (length (m .store)) c e) closed closed-holds refl
@@ -104,7 +106,9 @@ module _ (m : Machine) (c a n : ℕ) (dest window : List ℕ) (F : Fetched (m .s
 
 pub data Effect (m : Machine) (p : Call) : Type 0 where
   nothing : after m p ≡ m → Effect m p
-  replaces : (c : ℕ) (next : CommandState) (bytes : List ℕ) → mayChange p c ≡ true → Fits m c next bytes → after m p ≡ replaced m c next bytes → Effect m p
+  replaces :
+      (c : ℕ) (next : CommandState) (bytes : List ℕ) → mayChange p c ≡ true → Fits m c next bytes
+      → after m p ≡ replaced m c next bytes → Effect m p
 
 pub effect : (m : Machine) (p : Call) → Effect m p
 effect m p = go p (accepted (says m p)) refl

@@ -11,6 +11,9 @@ pub mod Delivery
 pub mod SameValue
 pub mod Stored
 pub mod Counts
+pub mod Tied
+pub mod Answers
+pub mod Meet
 pub mod Alike
 pub mod Values
 pub mod EqualRuns

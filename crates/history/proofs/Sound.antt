@@ -14,7 +14,7 @@ use Rattle.octets.proofs.Overwrite.{overwrite-inside}
 use Rattle.state.specs.declared.Record.{Record}
 use Rattle.state.specs.Limits.{commandLimit, storeSize}
 use Rattle.state.specs.Records.{inSpan, held, place}
-use Rattle.state.specs.State.{CommandState, commandOf, recordsIn, recordsOf, isOpen, withCommand, closed, open-with}
+use Rattle.state.specs.State.{CommandState, commandOf, recordsIn, recordsOf, isOpen, closed, open-with}
 use Rattle.state.specs.Verdict.{accepted}
 use Rattle.state.proofs.Laws.{held-joined, place-below, at-place}
 use Rattle.state.proofs.Commands.{command-same, command-other, records-open-with, Kept, kept, eight}
@@ -36,6 +36,13 @@ stored rs location store x = cond (held rs x) (first (getD store (location (plac
 abbrev pub Known : CommandState → (location : ℕ → ℕ) → (store : List ℕ) → Memory → (c x : ℕ) → Type 0
 Known p location store mem c x = p .opened ≡ true → mem c x ≡ stored (recordsIn p) location store x
 
+-- the same of a machine: what its store says, and what a command knows in it
+abbrev storedIn : Machine → List Record → (c x : ℕ) → Value
+storedIn m rs c x = stored rs (location (m .state) c) (m .store) x
+
+abbrev KnownIn : Machine → CommandState → Memory → (c x : ℕ) → Type 0
+KnownIn m p mem c x = Known p (location (m .state) c) (m .store) mem c x
+
 pub record Sound (m : Machine) (mem : Memory) : Type 0 where
   pub state : Whole (m .state)
   pub known : (c x : ℕ) → Known (commandOf (m .state) c) (location (m .state) c) (m .store) mem c x
@@ -51,8 +58,11 @@ sound-start store = record { state = whole-start store; known = λ c x o. none-o
 -- A command replaced: the others know what they knew.
 
 module _ (m : Machine) (c : ℕ) (next : CommandState) (bytes : List ℕ) (F : Fits m c next bytes) (mem mem′ : Memory) (S : Sound m mem)
-    (others : (d x : ℕ) → d ≢ c → mem′ d x ≡ mem d x) (own : (x : ℕ) → Known next (location (replaced m c next bytes .state) c) (replaced m c next bytes .store) mem′ c x) where
-  stored-other : (d x : ℕ) → d ≢ c → stored (recordsOf (m .state) d) (location (m .state) d) (replaced m c next bytes .store) x ≡ stored (recordsOf (m .state) d) (location (m .state) d) (m .store) x
+    (others : (d x : ℕ) → d ≢ c → mem′ d x ≡ mem d x) (own : (x : ℕ) → KnownIn (replaced m c next bytes) next mem′ c x) where
+  abbrev changed : Machine
+  changed = replaced m c next bytes
+
+  stored-other : (d x : ℕ) → d ≢ c → storedIn changed (recordsOf (m .state) d) d x ≡ storedIn m (recordsOf (m .state) d) d x
   stored-other d x apart = go (held (recordsOf (m .state) d) x) refl
     where
       rs : List Record
@@ -61,26 +71,24 @@ module _ (m : Machine) (c : ℕ) (next : CommandState) (bytes : List ℕ) (F : F
       K : Kept (commandOf (m .state) d)
       K = kept (m .state) d (S .state .whole)
 
-      go : (b : Bool) → held rs x ≡ b → stored rs (location (m .state) d) (replaced m c next bytes .store) x ≡ stored rs (location (m .state) d) (m .store) x
+      go : (b : Bool) → held rs x ≡ b → storedIn changed rs d x ≡ storedIn m rs d x
       go true h = rw h (ap first (byte-other F d (place rs x) apart (omega (arith, place-below 0 rs x (K .up) h, K .small))))
       go false h = rw h
 
-  known-replaced : (d x : ℕ)
-      → Known (commandOf (withCommand (m .state) c next) d) (location (replaced m c next bytes .state) d) (replaced m c next bytes .store) mem′ d x
+  known-replaced : (d x : ℕ) → KnownIn changed (commandOf (changed .state) d) mem′ d x
   known-replaced d x = go (eqb d c) refl
     where
-      go : (b : Bool) → eqb d c ≡ b
-          → Known (commandOf (withCommand (m .state) c next) d) (location (replaced m c next bytes .state) d) (replaced m c next bytes .store) mem′ d x
+      go : (b : Bool) → eqb d c ≡ b → KnownIn changed (commandOf (changed .state) d) mem′ d x
       go true e =
-          subst (λ (k : ℕ). Known (commandOf (withCommand (m .state) c next) k) (location (replaced m c next bytes .state) k) (replaced m c next bytes .store) mem′ k x) (sym (eqb-true d c e))
-          (subst (λ (p : CommandState). Known p (location (replaced m c next bytes .state) c) (replaced m c next bytes .store) mem′ c x)
+          subst (λ (k : ℕ). KnownIn changed (commandOf (changed .state) k) mem′ k x) (sym (eqb-true d c e))
+          (subst (λ (p : CommandState). KnownIn changed p mem′ c x)
           (sym (command-same (m .state) c next (omega (arith, eight (m .state) (S .state .shape), F .command)))) (own x))
       go false e =
           let apart = eqb-false d c e in
-          subst (λ (p : CommandState). Known p (location (replaced m c next bytes .state) d) (replaced m c next bytes .store) mem′ d x) (sym (command-other (m .state) c next d apart))
+          subst (λ (p : CommandState). KnownIn changed p mem′ d x) (sym (command-other (m .state) c next d apart))
           (λ o. others d x apart ∙ S .known d x o ∙ sym (stored-other d x apart))
 
-  sound-replaced : Sound (replaced m c next bytes) mem′
+  sound-replaced : Sound changed mem′
   sound-replaced = record { state = whole-replaced F (S .state); known = known-replaced; size = λ d o. length-replaced F ∙ F .size }
 
 -- Fetch: what the command holds then is what its memory then has.
@@ -98,22 +106,27 @@ module _ (m : Machine) (c a n : ℕ) (dest window : List ℕ) (F : Fetched (m .s
   abbrev bytes : List ℕ
   bytes = packed m c a n window
 
-  fetch-stored : (x : ℕ) → stored rs′ (location (replaced m c (open-with rs′) bytes .state) c) (replaced m c (open-with rs′) bytes .store) x ≡ cond (held rs′ x) (first (sees (old m c) (location (m .state) c) (m .store) (byteAt window) x)) none
+  abbrev fetchedInto : Machine
+  fetchedInto = replaced m c (open-with rs′) bytes
+
+  -- what the command sees at an address, of its own bytes and of the window
+  abbrev seen : ℕ → ℕ
+  seen = sees (old m c) (location (m .state) c) (m .store) (byteAt window)
+
+  fetch-stored : (x : ℕ) → storedIn fetchedInto rs′ c x ≡ cond (held rs′ x) (first (seen x)) none
   fetch-stored x = go (held rs′ x) refl
     where
-      go : (b : Bool) → held rs′ x ≡ b → stored rs′ (location (replaced m c (open-with rs′) bytes .state) c) (replaced m c (open-with rs′) bytes .store) x ≡ cond (held rs′ x) (first (sees (old m c) (location (m .state) c) (m .store) (byteAt window) x)) none
+      go : (b : Bool) → held rs′ x ≡ b → storedIn fetchedInto rs′ c x ≡ cond (held rs′ x) (first (seen x)) none
       go true h =
           let up = ascending-grown m c a n dest window F in
           let size = length-packed m c a n dest window F in
           let near : place rs′ x < length bytes = omega (arith, place-below 0 rs′ x up h) in
           let fits : partStart c + length bytes ≤ length (m .store) = omega (arith, total-grown m c a n dest window F, F .command, F .size) in
-          rw h
-          (ap first
-          (overwrite-inside (m .store) bytes (partStart c) fits (place rs′ x) 0 near ∙ at-place (sees (old m c) (location (m .state) c) (m .store) (byteAt window)) 0 0 rs′ x up h))
+          rw h (ap first (overwrite-inside (m .store) bytes (partStart c) fits (place rs′ x) 0 near ∙ at-place seen 0 0 rs′ x up h))
       go false h = rw h
 
   fetch-known : (mem : Memory) → Sound m mem → (x : ℕ)
-      → remember mem (deedOf true (fetch c a n dest window)) c x ≡ stored rs′ (location (replaced m c (open-with rs′) bytes .state) c) (replaced m c (open-with rs′) bytes .store) x
+      → remember mem (deedOf true (fetch c a n dest window)) c x ≡ storedIn fetchedInto rs′ c x
   unfolding remember
   fetch-known mem S x =
       rw (eq-eqb c c refl, S .known c x (F .opened), fetch-stored x, held-joined (old m c) a n x)
@@ -121,7 +134,9 @@ module _ (m : Machine) (c a n : ℕ) (dest window : List ℕ) (F : Fetched (m .s
 
 -- Every call keeps it.
 
-pub sound-after : (m : Machine) (mem : Memory) (p : Call) (b : Bool) → accepted (says m p) ≡ b → Sound m mem → Sound (after m p) (remember mem (deedOf b p))
+pub sound-after :
+    (m : Machine) (mem : Memory) (p : Call) (b : Bool) → accepted (says m p) ≡ b → Sound m mem
+    → Sound (after m p) (remember mem (deedOf b p))
 unfolding remember held
 sound-after m mem p false e S = rw (refused-same m p e) S
 sound-after m mem (begin c) true e S =
@@ -140,7 +155,9 @@ sound-after m mem (ownWrite c a bytes window) true e S = S
 sound-after m mem (show c i) true e S = S
 
 -- and so does every list
-pub sound-ran : (past : List Event) (m : Machine) (ps : List Call) → Sound m (memory past) → Sound (ran m ps) (memory (backwards past (along event m ps)))
+pub sound-ran :
+    (past : List Event) (m : Machine) (ps : List Call) → Sound m (memory past)
+    → Sound (ran m ps) (memory (backwards past (along event m ps)))
 unfolding ran along backwards memory
 sound-ran past m [] S = S
 sound-ran past m (p ∷ ps) S = sound-ran (event m p ∷ past) (after m p) ps (sound-after m (memory past) p (accepted (says m p)) refl S)

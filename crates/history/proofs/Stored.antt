@@ -7,7 +7,6 @@ use mathlib.Core.List.{List, [], _∷_, map}
 use mathlib.Core.Bool.{Bool, true, false, cond, _&&_}
 use lib.Dec.{eqb}
 use lib.ListN.{length, getD}
-use Rattle.octets.specs.Lists.{part}
 use Rattle.state.specs.declared.Record.{Record}
 use Rattle.state.specs.Records.{inSpan, held, place, addresses, total}
 use Rattle.state.specs.State.{commandOf, recordsOf, isOpen}
@@ -55,7 +54,7 @@ module _ (m : Machine) (mem : Memory) (S : Sound m mem) (c : ℕ) (o : isOpen (m
   abbrev rs : List Record
   rs = recordsOf (m .state) c
 
-  held-known : (x : ℕ) → held rs x ≡ isKnown (mem c x)
+  pub held-known : (x : ℕ) → held rs x ≡ isKnown (mem c x)
   held-known x = rw (S .known c x o) (known-held (held rs x) (getD (m .store) (partStart c + place rs x) 0))
 
   K : Kept (commandOf (m .state) c)

@@ -38,7 +38,9 @@ module _ (known : ℕ → Value) (w v : List ℕ) where
   unfolding firstsAmong
   firsts-values [] e = refl
   firsts-values (x ∷ xs) e =
-      let h = value-head (known x) (record { address = x; value = getD w x 0 }) (record { address = x; value = getD v x 0 }) (firstsAmong known w xs) (firstsAmong known v xs) e in
+      let one : First = record { address = x; value = getD w x 0 } in
+      let other : First = record { address = x; value = getD v x 0 } in
+      let h = value-head (known x) one other (firstsAmong known w xs) (firstsAmong known v xs) e in
       ap₂ _∷_ (h .0) (firsts-values xs (h .1))
 
   pub values-firsts : (xs : List ℕ) → map (value known w) xs ≡ map (value known v) xs → firstsAmong known w xs ≡ firstsAmong known v xs

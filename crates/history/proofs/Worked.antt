@@ -15,10 +15,11 @@ use Rattle.state.specs.Verdict.{Reply, refused, replied, verdict, accepted}
 use Rattle.cache.specs.Begin.{beginSays, beginState, beginStore}
 use Rattle.cache.specs.Fetch.{fetchSays, fetchState, fetchStore, fetchDest}
 use Rattle.cache.specs.End.{endSays, endState, endStore}
-use Rattle.cache.specs.Runs.{Call, begin, fetch, end, hostWrite, start, along, delivers}
-use Rattle.history.specs.Journal.{Event, journal, told, deed}
-use Rattle.history.specs.Firsts.{remember, memory, First, firstsAmong, firstsBy, firsts, owedBy, owed}
-use Rattle.history.specs.Counts.{countKnown, countsBy, countsOwed, add, freshSince, sumOwed}
+use Rattle.cache.specs.Runs.{Call, begin, fetch, end, hostWrite, ownWrite, show, start, along, delivers}
+use Rattle.history.specs.Journal.{Event, journal, told, backwards, deed}
+use Rattle.history.specs.Firsts.{remember, memory, finds, fetchedSince, First, firstsAmong, firstsBy, firsts, owedBy, owed}
+use Rattle.history.specs.Counts.{count, countsBy, countsOwed, add, freshSince, sumOwed}
+use Rattle.history.specs.Answers.{opens, openSince, replayCount, firstCount, answerOwed}
 use Rattle.history.specs.Claims.{renews, mayChange, common}
 
 abbrev dest : List ℕ
@@ -48,7 +49,8 @@ calls : List Call
 calls = map (λ e. e .call) run
 
 is-run : journal (replicate 32768 3) calls ≡ run
-unfolding run calls along beginSays beginState beginStore fetchSays fetchState fetchStore endSays endState endStore verdict accepted all ascending commandHolds holds total held span countFresh countHeld keep lowest highest joined addresses place
+unfolding run calls along beginSays beginState beginStore fetchSays fetchState fetchStore endSays endState endStore verdict accepted
+    all ascending commandHolds holds total held span countFresh countHeld keep lowest highest joined addresses place
 is-run = refl
 
 abbrev _↦↦_ : ℕ → ℕ → First
@@ -72,12 +74,30 @@ bytes-delivered = refl
 
 counts-owed : told countsOwed [] run
     ≡ [] ∷ [] ∷ (2 ∷ 0 ∷ []) ∷ (1 ∷ 0 ∷ []) ∷ (1 ∷ 2 ∷ []) ∷ [] ∷ [] ∷ [] ∷ [] ∷ [] ∷ (1 ∷ 0 ∷ []) ∷ [] ∷ []
-unfolding run told remember memory firstsAmong countKnown countsBy accepted span
+unfolding run told remember memory firstsAmong count countsBy accepted span
 counts-owed = refl
 
 sums-owed : told sumOwed [] run ≡ [] ∷ [] ∷ [] ∷ [] ∷ [] ∷ [] ∷ [] ∷ [] ∷ (3 ∷ []) ∷ [] ∷ [] ∷ (1 ∷ []) ∷ []
 unfolding run told add freshSince accepted
 sums-owed = refl
+
+-- behind this run command 1 is closed and command 2 open, and what further calls are owed follows from that
+abbrev past : List Event
+past = backwards [] run
+
+open-now : map (openSince past) (1 ∷ 2 ∷ 3 ∷ []) ≡ false ∷ true ∷ false ∷ []
+unfolding run backwards opens openSince accepted
+open-now = refl
+
+owed-now : map (answerOwed 32768 past) (begin 1 ∷ begin 2 ∷ begin 8 ∷ end 1 ∷ ownWrite 2 0 (7 ∷ []) (1 ∷ 2 ∷ []) ∷ show 1 0 ∷ [])
+    ≡ replied [] ∷ refused 22 ∷ refused 6 ∷ refused 21 ∷ replied (1 ∷ []) ∷ refused 21 ∷ []
+unfolding open-now answerOwed verdict
+owed-now = refl
+
+-- of the span 0+3 command 2 has fetched the first address, and of 1 and 2 it would have first fetches
+counts-now : replayCount past 2 0 3 ∷ firstCount past 2 0 3 ∷ [] ≡ 1 ∷ 2 ∷ []
+unfolding run backwards finds fetchedSince accepted count span
+counts-now = refl
 
 -- command 1 begins anew in this run
 begins-anew : all (λ e. not (renews 1 0 (deed e))) run ≡ false

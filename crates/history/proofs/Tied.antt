@@ -1,0 +1,94 @@
+-- What holds between a machine and the events that led to it, and so which commands are open.
+use Prim.Native.Nat.{ℕ, _<_}
+use native.Mathlib.Omega.{arith}
+use mathlib.Core.Path.{_≡_, refl, ap, sym, _∙_}
+use mathlib.Core.List.{List, [], _∷_}
+use mathlib.Core.Bool.{Bool, true, false, cond}
+use lib.Dec.{eqb}
+use lib.ListN.{length}
+use borrow.Author.Tests.{eqb-true, eqb-false}
+use Rattle.octets.proofs.Lists.{getD-same}
+use Rattle.state.specs.Limits.{commandLimit}
+use Rattle.state.specs.State.{CommandState, State, isOpen, withCommand, open-with, closed}
+use Rattle.state.specs.Verdict.{accepted}
+use Rattle.state.proofs.Commands.{command-same, command-other, eight}
+use Rattle.cache.proofs.Accepted.{fetched}
+use Rattle.cache.specs.Runs.{Call, begin, fetch, end, hostWrite, ownWrite, show, Machine, start, says, after, along, ran}
+use Rattle.history.specs.Journal.{Event, event, backwards, deedOf}
+use Rattle.history.specs.Firsts.{memory}
+use Rattle.history.specs.Counts.{freshSince}
+use Rattle.history.specs.Answers.{opens, openSince, OpenTold}
+use Rattle.history.proofs.Effects.{refused-same, grown, begin-after, end-after, fetch-after, begin-fits, end-fits, length-after}
+use Rattle.history.proofs.Invariant.{Whole}
+use Rattle.history.proofs.Sound.{Sound, sound-start, sound-after}
+use Rattle.history.proofs.Counts.{Summed, summed-start, summed-after}
+
+-- Open and closed: a call leaves a command open exactly if the search, one event further, finds it so.
+
+opened-with : (s : State) (c : ℕ) (next : CommandState) (d : ℕ) → c < length (s .commands)
+    → isOpen (withCommand s c next) d ≡ cond (eqb d c) (next .opened) (isOpen s d)
+opened-with s c next d h = go (eqb d c) refl
+  where
+    go : (b : Bool) → eqb d c ≡ b → isOpen (withCommand s c next) d ≡ cond b (next .opened) (isOpen s d)
+    go true e =
+        ap (λ (k : ℕ). isOpen (withCommand s c next) k) (eqb-true d c e) ∙ ap (λ (p : CommandState). p .opened) (command-same s c next h)
+    go false e = ap (λ (p : CommandState). p .opened) (command-other s c next d (eqb-false d c e))
+
+opened-after : (m : Machine) (p : Call) (b : Bool) → accepted (says m p) ≡ b → Whole (m .state) → (d : ℕ)
+    → isOpen (after m p .state) d ≡ opens (deedOf b p) d (isOpen (m .state) d)
+unfolding opens
+opened-after m p false e W d = ap (λ (k : Machine). isOpen (k .state) d) (refused-same m p e)
+opened-after m (begin c) true e W d =
+    ap (λ (k : Machine). isOpen (k .state) d) (begin-after m c e)
+    ∙ opened-with (m .state) c (open-with []) d (omega (arith, eight (m .state) (W .shape), begin-fits m c e .command))
+opened-after m (fetch c a n dest window) true e W d =
+    let F = fetched (m .state) (length (m .store)) (length window) (length dest) c a n e in
+    ap (λ (k : Machine). isOpen (k .state) d) (fetch-after m c a n dest window e)
+    ∙ opened-with (m .state) c (open-with (grown m c a n)) d (omega (arith, eight (m .state) (W .shape), F .command))
+    ∙ go (F .opened) (eqb d c) refl
+  where
+    go : isOpen (m .state) c ≡ true → (b : Bool) → eqb d c ≡ b → cond b true (isOpen (m .state) d) ≡ isOpen (m .state) d
+    go o true q = sym (ap (isOpen (m .state)) (eqb-true d c q) ∙ o)
+    go o false q = refl
+opened-after m (end c) true e W d =
+    ap (λ (k : Machine). isOpen (k .state) d) (end-after m c e)
+    ∙ opened-with (m .state) c closed d (omega (arith, eight (m .state) (W .shape), end-fits m c e .command))
+opened-after m (hostWrite a bytes window) true e W d = refl
+opened-after m (ownWrite c a bytes window) true e W d = refl
+opened-after m (show c i) true e W d = refl
+
+-- What holds between a machine and the events that led to it
+pub record Tied (storeLen : ℕ) (m : Machine) (past : List Event) : Type 0 where
+  pub sound : Sound m (memory past)
+  pub summed : Summed m (freshSince past)
+  pub opened : (c : ℕ) → isOpen (m .state) c ≡ openSince past c
+  pub size : length (m .store) ≡ storeLen
+
+pub tied-start : (store : List ℕ) → Tied (length store) (start store) []
+unfolding openSince
+tied-start store = record {
+  sound = sound-start store;
+  summed = summed-start store;
+  opened = λ c. ap (λ (p : CommandState). p .opened) (getD-same commandLimit c closed);
+  size = refl;
+}
+
+pub tied-after : (storeLen : ℕ) (m : Machine) (past : List Event) (p : Call) → Tied storeLen m past → Tied storeLen (after m p) (event m p ∷ past)
+unfolding memory freshSince openSince
+tied-after storeLen m past p T =
+    let ok = accepted (says m p) in
+    record {
+      sound = sound-after m (memory past) p ok refl (T .sound);
+      summed = summed-after m (memory past) (freshSince past) p ok refl (T .sound) (T .summed);
+      opened = λ d. opened-after m p ok refl (T .sound .state) d ∙ ap (opens (deedOf ok p) d) (T .opened d);
+      size = length-after m p ∙ T .size;
+    }
+
+pub tied-ran : (storeLen : ℕ) (m : Machine) (past : List Event) (ps : List Call) → Tied storeLen m past
+    → Tied storeLen (ran m ps) (backwards past (along event m ps))
+unfolding ran along backwards
+tied-ran storeLen m past [] T = T
+tied-ran storeLen m past (p ∷ ps) T = tied-ran storeLen (after m p) (event m p ∷ past) ps (tied-after storeLen m past p T)
+
+pub open-told : OpenTold
+open-told store ps = tied-ran (length store) (start store) [] ps (tied-start store) .opened

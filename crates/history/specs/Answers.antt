@@ -1,0 +1,157 @@
+-- Every answer, told from the calls: what a call is owed is told from the events before it, from its numbers and from the lengths of what it
+-- is lent. No state, no record and no byte of the store enters, nor the answer that it was given. (01 is the agreed scope; docs/RULES.md
+-- has its rules.)
+use Prim.Native.Nat.{ℕ, _+_, _-_, _<_}
+use mathlib.Core.Path.{_≡_}
+use mathlib.Core.List.{List, [], _∷_, _++_}
+use mathlib.Core.Bool.{Bool, true, false, cond, not, _||_}
+use mathlib.Core.Logic.{_↔_}
+use lib.Dec.{ltb, leb, eqb}
+use lib.ListN.{length, getD}
+use Rattle.state.specs.declared.Record.{Record}
+use Rattle.state.specs.declared.refusal.Refusal.the-variants.{CommandNotOpen, CommandAlreadyOpen, TooManyBytes, TooManyRecords, NoSuchRecord}
+use Rattle.state.specs.Limits.{recordLimit, heldLimit, windowLimit}
+use Rattle.state.specs.Refusals.{number}
+use Rattle.state.specs.Records.{inSpan, span, total}
+use Rattle.state.specs.Runs.{runs}
+use Rattle.state.specs.State.{noRecord, recordsOf, isOpen}
+use Rattle.state.specs.Verdict.{Reply, refused, replied, Check, _⇒_, verdict, applying}
+use Rattle.state.specs.Checks.{lengthTooLong, commandTooHigh, windowTooLong, storeWrongSize, outsideWindow, bufferTooShort}
+use Rattle.cache.specs.Runs.{Call, begin, fetch, end, hostWrite, ownWrite, show, start, along, ran, says}
+use Rattle.history.specs.Journal.{Event, journal, told, backwards, Deed, began, fetched, ended, other, deed}
+use Rattle.history.specs.Firsts.{fetchedSince}
+use Rattle.history.specs.Counts.{count, freshSince}
+
+-- A search back through the events: was the last accepted begin or end of the command a begin?
+unfoldable pub opens : Deed → (c : ℕ) → Bool → Bool
+opens (began d) c further = cond (eqb c d) true further
+opens (fetched d a n window) c further = further
+opens (ended d) c further = cond (eqb c d) false further
+opens other c further = further
+
+unfoldable pub openSince : List Event → ℕ → Bool
+openSince [] c = false
+openSince (e ∷ past) c = opens (deed e) c (openSince past c)
+
+module _ (past : List Event) (c : ℕ) where
+  -- the addresses that the command has fetched since its begin: how many of all addresses, and how many of a span
+  abbrev pub fetchedCount : ℕ
+  fetchedCount = count (fetchedSince past c) (span 0 windowLimit)
+
+  abbrev pub replayCount : (a n : ℕ) → ℕ
+  replayCount a n = count (fetchedSince past c) (span a n)
+
+  -- and how many of a span it has not fetched: its first fetches, if the span is fetched now
+  abbrev pub firstCount : (a n : ℕ) → ℕ
+  firstCount a n = count (λ x. not (fetchedSince past c x)) (span a n)
+
+  -- the longest unbroken runs of the addresses that it has fetched, which are its records, and what they become with a span
+  abbrev pub runsOf : List Record
+  runsOf = runs (fetchedSince past c)
+
+  abbrev pub runsWith : (a n : ℕ) → List Record
+  runsWith a n = runs (λ x. fetchedSince past c x || inSpan a n x)
+
+  -- 21: the command is not open
+  abbrev pub notOpen : Check
+  notOpen = not (openSince past c) ⇒ number CommandNotOpen
+
+  -- 22: the command is open already
+  abbrev pub alreadyOpen : Check
+  alreadyOpen = openSince past c ⇒ number CommandAlreadyOpen
+
+  -- 23: with the first fetches of the span it would have fetched more than 4,096 addresses
+  abbrev pub bytesFull : (a n : ℕ) → Check
+  bytesFull a n = ltb heldLimit (fetchedCount + firstCount a n) ⇒ number TooManyBytes
+
+  -- 24: with the span there would be more than 64 runs
+  abbrev pub recordsFull : (a n : ℕ) → Check
+  recordsFull a n = ltb recordLimit (length (runsWith a n)) ⇒ number TooManyRecords
+
+  -- 25: there is no run of this number
+  abbrev pub noSuchRun : ℕ → Check
+  noSuchRun i = leb (length runsOf) i ⇒ number NoSuchRecord
+
+module _ (storeLen : ℕ) (past : List Event) where
+  -- the checks of a fetch below 23: 4, 6 to 10, 21
+  abbrev pub lowerChecks : (c a n destLen windowLen : ℕ) → List Check
+  lowerChecks c a n destLen windowLen =
+      lengthTooLong n ∷ commandTooHigh c ∷ windowTooLong windowLen ∷ storeWrongSize storeLen ∷ outsideWindow windowLen a n
+      ∷ bufferTooShort destLen n ∷ notOpen past c ∷ []
+
+  -- What a call is owed: the number of the first check that applies, in the order of 01's numbers, and the reply where none does. 20 is in no
+  -- list, so it is never given.
+  unfoldable pub answerOwed : Call → Reply
+  -- 6, 8, 22; begin replies nothing
+  answerOwed (begin c) = verdict (commandTooHigh c ∷ storeWrongSize storeLen ∷ alreadyOpen past c ∷ []) (replied [])
+  -- 4, 6 to 10, 21, 23, 24; fresh and replayed
+  answerOwed (fetch c a n dest window) =
+      verdict (lowerChecks c a n (length dest) (length window) ++ bytesFull past c a n ∷ recordsFull past c a n ∷ [])
+      (replied (firstCount past c a n ∷ replayCount past c a n ∷ []))
+  -- 6, 8, 21; the number of records and of distinct bytes
+  answerOwed (end c) =
+      verdict (commandTooHigh c ∷ storeWrongSize storeLen ∷ notOpen past c ∷ []) (replied (length (runsOf past c) ∷ fetchedCount past c ∷ []))
+  -- 4, 7, 9; the number of bytes
+  answerOwed (hostWrite a bytes window) =
+      verdict (lengthTooLong (length bytes) ∷ windowTooLong (length window) ∷ outsideWindow (length window) a (length bytes) ∷ [])
+      (replied (length bytes ∷ []))
+  -- 4, 6, 7, 9, 21; the number of bytes
+  answerOwed (ownWrite c a bytes window) =
+      verdict
+      (lengthTooLong (length bytes) ∷ commandTooHigh c ∷ windowTooLong (length window) ∷ outsideWindow (length window) a (length bytes)
+      ∷ notOpen past c ∷ [])
+      (replied (length bytes ∷ []))
+  -- 6, 21, 25; start and length
+  answerOwed (show c i) =
+      let r = getD (runsOf past c) i noRecord in
+      verdict (commandTooHigh c ∷ notOpen past c ∷ noSuchRun past c i ∷ []) (replied (r .start ∷ r .len ∷ []))
+
+  -- at an event, of which the call is looked at and not the answer
+  abbrev pub answersOwed : Event → Reply
+  answersOwed e = answerOwed (e .call)
+
+-- the events of a list of calls, the latest first
+abbrev pub eventsOf : (store : List ℕ) → List Call → List Event
+eventsOf store ps = backwards [] (journal store ps)
+
+-- After every list a command is open exactly if the last accepted begin or end of it was a begin.
+abbrev pub OpenTold : Type 0
+OpenTold =
+    (store : List ℕ) (ps : List Call) (c : ℕ) → isOpen (ran (start store) ps .state) c ≡ openSince (eventsOf store ps) c
+
+-- Every call of every list is answered as the calls before it owe, refusals, counts, end's two numbers and what show gives included.
+abbrev pub AnswersTold : Type 0
+AnswersTold = (store : List ℕ) (ps : List Call) → along says (start store) ps ≡ told (answersOwed (length store)) [] (journal store ps)
+
+-- The same with no run at all behind it: calls and the length of the store alone give every answer, each by the answers owed before it.
+unfoldable pub answersGiven : (storeLen : ℕ) → List Event → List Call → List Reply
+answersGiven storeLen past [] = []
+answersGiven storeLen past (p ∷ ps) =
+    let r = answerOwed storeLen past p in r ∷ answersGiven storeLen (record { call = p; answer = r } ∷ past) ps
+
+abbrev pub CallsGiveAnswers : Type 0
+CallsGiveAnswers = (store : List ℕ) (ps : List Call) → along says (start store) ps ≡ answersGiven (length store) [] ps
+
+-- The order's second question, two counts of what is spare and how they meet. One counts every place of a command's part of the store,
+-- 4,096. The other counts the places that are not handed out yet: those less one for each address that the command has fetched since its
+-- begin.
+abbrev pub spare : List Event → (c : ℕ) → ℕ
+spare past c = heldLimit - fetchedCount past c
+
+pub record Meets (store : List ℕ) (ps : List Call) (c : ℕ) : Type 0 where
+  -- the bytes that its records hold are the addresses that it has fetched since its begin, each counted once
+  pub held : total (recordsOf (ran (start store) ps .state) c) ≡ fetchedCount (eventsOf store ps) c
+  -- and these are as many as the fresh counts that it was replied since its begin come to
+  pub handedOut : fetchedCount (eventsOf store ps) c ≡ freshSince (eventsOf store ps) c
+  -- the two counts meet: every place is spare, or was handed out by a reply since the begin
+  pub meet : freshSince (eventsOf store ps) c + spare (eventsOf store ps) c ≡ heldLimit
+  -- a fetch to which no lower number applies is answered 23 exactly if it has more first fetches than places are spare
+  pub full :
+      (a n : ℕ) (dest window : List ℕ)
+      → applying (lowerChecks (length store) (eventsOf store ps) c a n (length dest) (length window)) ≡ []
+      → (says (ran (start store) ps) (fetch c a n dest window) ≡ refused (number TooManyBytes))
+      ↔ (spare (eventsOf store ps) c < firstCount (eventsOf store ps) c a n)
+
+-- After every list, for every open command.
+abbrev pub CountsMeet : Type 0
+CountsMeet = (store : List ℕ) (ps : List Call) (c : ℕ) → isOpen (ran (start store) ps .state) c ≡ true → Meets store ps c
