@@ -122,6 +122,22 @@ pub record EqualRuns (store : List ℕ) (ps qs : List Call) : Type 0 where
 abbrev pub EqualRunsRule : Type 0
 EqualRunsRule = (store : List ℕ) (ps qs : List Call) → map common ps ≡ map common qs → EqualRuns store ps qs
 
+-- The same for more pairs of runs: of a destination, too, the length alone need be common. So what stood in a destination before a fetch
+-- shows in no answer, no state, no delivered byte and no store.
+abbrev pub blankDest : Call → Call
+blankDest (begin c) = begin c
+blankDest (fetch c a n dest window) = fetch c a n (blank dest) window
+blankDest (end c) = end c
+blankDest (hostWrite a bytes window) = hostWrite a bytes window
+blankDest (ownWrite c a bytes window) = ownWrite c a bytes window
+blankDest (show c i) = show c i
+
+abbrev pub commonLengths : Call → Call
+commonLengths p = blankDest (common p)
+
+abbrev pub EqualRunsLengths : Type 0
+EqualRunsLengths = (store : List ℕ) (ps qs : List Call) → map commonLengths ps ≡ map commonLengths qs → EqualRuns store ps qs
+
 -- After every list the state holds together, in the shape that words give a state, and so the answer 20 is never given.
 abbrev pub AlwaysHolds : Type 0
 AlwaysHolds =
