@@ -21,6 +21,7 @@ use Rattle.cache.specs.Runs.{destAfter, windowGiven, windowAfter, delivers}
 use Rattle.history.specs.Journal.{Event, event, journal, told, backwards, Deed, began, fetched, ended, other, deed}
 use Rattle.history.specs.Firsts.{Memory, memory, isKnown, fetchedSince, firsts, recall, owed}
 use Rattle.history.specs.Counts.{countsReplied, countsOwed, bytesReplied, sumOwed}
+use Rattle.history.specs.Stores.{storeOwed}
 
 -- Demand 2. The delivery rule: the bytes delivered at each call are those that the first fetches since the command's begin saw.
 abbrev pub DeliveryRule : Type 0
@@ -59,6 +60,11 @@ pub record Holding (store : List ℕ) (ps : List Call) (c : ℕ) : Type 0 where
 
 abbrev pub StoredBytes : Type 0
 StoredBytes = (store : List ℕ) (ps : List Call) (c : ℕ) → isOpen (ran (start store) ps .state) c ≡ true → Holding store ps c
+
+-- The whole store: after every list it is, byte for byte, what the store at the start and the calls say. A part never begun is as it was
+-- given, that of an open command has its held bytes and then zeros, and that of an ended one is zero.
+abbrev pub StoreTold : Type 0
+StoreTold = (store : List ℕ) (ps : List Call) → ran (start store) ps .store ≡ storeOwed store (backwards [] (journal store ps))
 
 -- Midas' invariant: where a command fetches an address twice, and nothing between the two renews the address for it, both deliver
 -- the same value there. What renews it is an accepted begin of the command, at every address. (An end between them does not matter:
