@@ -1,4 +1,4 @@
--- Two calls of which the equal-runs rule speaks: the same but for the bytes of windows and of host writes.
+-- Two calls of which the equal-runs rule speaks: the same but for the bytes of windows, of host writes and of destinations.
 use Prim.Native.Nat.{ℕ}
 use native.Mathlib.Omega.{arith}
 use mathlib.Core.Path.{_≡_, sym, ap, _∙_}
@@ -8,20 +8,20 @@ use lib.ListN.{length, length-replicate}
 use Rattle.octets.proofs.Lists.{cons-head, cons-tail}
 use Rattle.cache.specs.Runs.{Call, begin, fetch, end, hostWrite, ownWrite, show, Machine, says, stateAfter}
 use Rattle.history.specs.Journal.{Deed, fetched, deedOf}
-use Rattle.history.specs.Claims.{common}
+use Rattle.history.specs.Claims.{common, commonLengths}
 
 pub data Alike : Call → Call → Type 0 where
   begins : {c : ℕ} → Alike (begin c) (begin c)
-  fetches : {c a n : ℕ} {dest w v : List ℕ} → length w ≡ length v → Alike (fetch c a n dest w) (fetch c a n dest v)
+  fetches : {c a n : ℕ} {t u w v : List ℕ} → length t ≡ length u → length w ≡ length v → Alike (fetch c a n t w) (fetch c a n u v)
   ends : {c : ℕ} → Alike (end c) (end c)
   hostWrites : {a : ℕ} {b d w v : List ℕ} → length b ≡ length d → length w ≡ length v → Alike (hostWrite a b w) (hostWrite a d v)
   ownWrites : {c a : ℕ} {bytes w v : List ℕ} → length w ≡ length v → Alike (ownWrite c a bytes w) (ownWrite c a bytes v)
   shows : {c i : ℕ} → Alike (show c i) (show c i)
 
-common-alike : (p : Call) → Alike (common p) p
+common-alike : (p : Call) → Alike (commonLengths p) p
 unfolding common
 common-alike (begin c) = begins
-common-alike (fetch c a n dest window) = fetches (length-replicate _ _)
+common-alike (fetch c a n dest window) = fetches (length-replicate _ _) (length-replicate _ _)
 common-alike (end c) = ends
 common-alike (hostWrite a bytes window) = hostWrites (length-replicate _ _) (length-replicate _ _)
 common-alike (ownWrite c a bytes window) = ownWrites (length-replicate _ _)
@@ -29,20 +29,20 @@ common-alike (show c i) = shows
 
 through : {k p q : Call} → Alike k p → Alike k q → Alike p q
 through begins begins = begins
-through (fetches e) (fetches f) = fetches (sym e ∙ f)
+through (fetches d e) (fetches t f) = fetches (sym d ∙ t) (sym e ∙ f)
 through ends ends = ends
 through (hostWrites b e) (hostWrites d f) = hostWrites (sym b ∙ d) (sym e ∙ f)
 through (ownWrites e) (ownWrites f) = ownWrites (sym e ∙ f)
 through shows shows = shows
 
-alike : (p q : Call) → common p ≡ common q → Alike p q
+alike : (p q : Call) → commonLengths p ≡ commonLengths q → Alike p q
 alike p q e = through (common-alike p) (rw e (common-alike q))
 
 pub data Alikes : List Call → List Call → Type 0 where
   nil : Alikes [] []
   next : {p q : Call} {ps qs : List Call} → Alike p q → Alikes ps qs → Alikes (p ∷ ps) (q ∷ qs)
 
-pub alikes : (ps qs : List Call) → map common ps ≡ map common qs → Alikes ps qs
+pub alikes : (ps qs : List Call) → map commonLengths ps ≡ map commonLengths qs → Alikes ps qs
 alikes [] [] e = nil
 alikes [] (q ∷ qs) e = absurd (omega (arith, ap length e))
 alikes (p ∷ ps) [] e = absurd (omega (arith, ap length e))
@@ -55,7 +55,7 @@ pub record Twin (m k : Machine) : Type 0 where
 
 pub says-alike : {m k : Machine} {p q : Call} → Twin m k → Alike p q → says m p ≡ says k q
 says-alike T begins = cc
-says-alike T (fetches e) = cc
+says-alike T (fetches d e) = cc
 says-alike T ends = cc
 says-alike T (hostWrites b e) = cc
 says-alike T (ownWrites e) = cc
@@ -63,7 +63,7 @@ says-alike T shows = cc
 
 pub state-alike : {m k : Machine} {p q : Call} → Twin m k → Alike p q → stateAfter m p ≡ stateAfter k q
 state-alike T begins = cc
-state-alike T (fetches e) = cc
+state-alike T (fetches d e) = cc
 state-alike T ends = cc
 state-alike T (hostWrites b e) = cc
 state-alike T (ownWrites e) = cc
@@ -77,7 +77,7 @@ pub data View : Deed → Deed → Type 0 where
 pub view : {p q : Call} (b : Bool) → Alike p q → View (deedOf b p) (deedOf b q)
 view false A = same
 view true begins = same
-view true (fetches e) = fetching
+view true (fetches d e) = fetching
 view true ends = same
 view true (hostWrites b e) = same
 view true (ownWrites e) = same

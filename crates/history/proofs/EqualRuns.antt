@@ -1,8 +1,8 @@
 -- Demand 3 (docs/EVIDENCE.md lists the demands), the equal-runs rule, over every two lists of calls that have all in common but the bytes
--- of windows and of host writes.
+-- of windows, of host writes and of destinations; and, as a case of it, where they have the destinations in common too.
 use Prim.Native.Nat.{ℕ}
 use mathlib.Core.Path.{_≡_, refl, ap, ap₂, sym, _∙_}
-use mathlib.Core.List.{List, [], _∷_, map}
+use mathlib.Core.List.{List, [], _∷_, map, map-map}
 use mathlib.Core.Bool.{Bool, true, false}
 use lib.ListN.{length}
 use Rattle.octets.specs.Lists.{overwrite}
@@ -16,7 +16,7 @@ use Rattle.cache.proofs.Accepted.{fetched}
 use Rattle.cache.specs.Runs.{Call, fetch, Machine, start, along, says, stateAfter, storeAfter, after}
 use Rattle.history.specs.Journal.{Deed, deedOf}
 use Rattle.history.specs.Firsts.{none, Memory, remember, memory, firstsBy, recall, owedBy}
-use Rattle.history.specs.Claims.{EqualRunsRule}
+use Rattle.history.specs.Claims.{common, blankDest, commonLengths, EqualRunsRule, EqualRunsLengths}
 use Rattle.history.proofs.Effects.{refused-same, old, grown, packed, fetch-after, length-after}
 use Rattle.history.proofs.Sound.{Sound, sound-start, sound-after}
 use Rattle.history.proofs.Memories.{alongMemory, told-memory}
@@ -104,12 +104,12 @@ stores-alike :
 unfolding firstsBy
 stores-alike {m} {p} {q} mem false S A e f = ap (λ (j : Machine). j .store) (refused-same m p e ∙ sym (refused-same m q (accepted-alike m p q A e)))
 stores-alike mem true S begins e f = refl
-stores-alike {m} mem true S (fetches {c} {a} {n} {dest} {w} {v} k) e f =
-    let e′ = accepted-alike m (fetch c a n dest w) (fetch c a n dest v) (fetches k) e in
-    let F = fetched (m .state) (length (m .store)) (length w) (length dest) c a n e in
-    ap (λ (j : Machine). j .store) (fetch-after m c a n dest w e)
+stores-alike {m} mem true S (fetches {c} {a} {n} {t} {u} {w} {v} d k) e f =
+    let e′ = accepted-alike m (fetch c a n t w) (fetch c a n u v) (fetches d k) e in
+    let F = fetched (m .state) (length (m .store)) (length w) (length t) c a n e in
+    ap (λ (j : Machine). j .store) (fetch-after m c a n t w e)
     ∙ ap (overwrite (m .store) (partStart c)) (packed-equal m mem S c a n w v (F .opened) (firsts-values (mem c) w v (span a n) f))
-    ∙ sym (ap (λ (j : Machine). j .store) (fetch-after m c a n dest v e′))
+    ∙ sym (ap (λ (j : Machine). j .store) (fetch-after m c a n u v e′))
 stores-alike mem true S ends e f = refl
 stores-alike mem true S (hostWrites b k) e f = refl
 stores-alike mem true S (ownWrites k) e f = refl
@@ -130,10 +130,10 @@ stores-equal {m} {k} mem is S (next {p} {q} {ps} {qs} A As) e =
     (stores-equal (remember mem (deedOf ok p)) (λ i. record { state = state-alike (twin is) A i; store = stores i }) (sound-after m mem p ok refl S) As
     (rw (← remembered) at (cons-tail here)))
 
--- The rule
+-- The rule, of equal lengths
 
-pub equal-runs : EqualRunsRule
-equal-runs store ps qs e =
+pub equal-runs-lengths : EqualRunsLengths
+equal-runs-lengths store ps qs e =
     let As = alikes ps qs e in
     let T = twin {m = start store} refl in
     let S = sound-start store in
@@ -152,3 +152,10 @@ equal-runs store ps qs e =
       );
       stores = λ h. stores-equal none′ refl S As (sym firsts-ps ∙ h ∙ firsts-qs);
     }
+
+-- and so of equal destinations
+common-lengths : (ps : List Call) → map commonLengths ps ≡ map blankDest (map common ps)
+common-lengths ps = sym (map-map blankDest common ps)
+
+pub equal-runs : EqualRunsRule
+equal-runs store ps qs e = equal-runs-lengths store ps qs (common-lengths ps ∙ ap (map blankDest) e ∙ sym (common-lengths qs))

@@ -10,6 +10,7 @@ pub mod Memories
 pub mod Delivery
 pub mod SameValue
 pub mod Stored
+pub mod Stores
 pub mod Counts
 pub mod Tied
 pub mod Answers

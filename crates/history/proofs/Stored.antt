@@ -57,13 +57,13 @@ module _ (m : Machine) (mem : Memory) (S : Sound m mem) (c : ℕ) (o : isOpen (m
   pub held-known : (x : ℕ) → held rs x ≡ isKnown (mem c x)
   held-known x = rw (S .known c x o) (known-held (held rs x) (getD (m .store) (partStart c + place rs x) 0))
 
-  K : Kept (commandOf (m .state) c)
+  pub K : Kept (commandOf (m .state) c)
   K = kept (m .state) c (S .state .whole)
 
-  part-fits : partStart c + total rs ≤ length (m .store)
+  pub part-fits : partStart c + total rs ≤ length (m .store)
   part-fits = omega (arith, K .small, open-below (m .state) c (S .state .shape) o, S .size c o)
 
-  part-known : packedBytes (m .state) (m .store) c (total rs) ≡ map (λ x. recall (mem c x)) (addresses rs)
+  pub part-known : packedBytes (m .state) (m .store) c (total rs) ≡ map (λ x. recall (mem c x)) (addresses rs)
   part-known =
       packed-part (m .state) (m .store) c (total rs) part-fits
       ∙ sym

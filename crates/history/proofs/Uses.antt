@@ -1,9 +1,9 @@
 -- Claims at work. The equal-runs rule: a count of 4, at address 2, is fetched and checked, the host writes over it, and the list behind
--- the count is fetched together with it. Records told: what a command holds.
+-- the count is fetched together with it. Records told: what a command holds. Store told: what an end leaves.
 use Prim.Native.Nat.{ℕ, _<_}
 use native.Mathlib.Omega.{arith}
 use mathlib.Core.Path.{_≡_, refl, ap, _∙_}
-use mathlib.Core.List.{List, [], _∷_}
+use mathlib.Core.List.{List, [], _∷_, _++_, flatMap}
 use mathlib.Core.Bool.{true}
 use mathlib.Core.Logic.{_≢_}
 use lib.ListN.{getD, replicate}
@@ -15,13 +15,16 @@ use Rattle.state.specs.Verdict.{verdict, accepted}
 use Rattle.state.proofs.Runs.{runs-are-runs}
 use Rattle.cache.specs.Begin.{beginSays, beginState, beginStore}
 use Rattle.cache.specs.Fetch.{fetchSays, fetchState, fetchStore, fetchDest}
+use Rattle.cache.specs.End.{endSays, endState, endStore}
 use Rattle.cache.specs.HostWrite.{hostSays}
-use Rattle.cache.specs.Runs.{Call, begin, fetch, hostWrite, start, along, ran, delivers}
+use Rattle.cache.specs.Runs.{Call, begin, fetch, end, hostWrite, start, along, ran, delivers}
 use Rattle.history.specs.Journal.{journal, told, backwards}
 use Rattle.history.specs.Firsts.{remember, memory, fetchedSince, First, firstsAmong, firstsBy, firsts}
+use Rattle.history.specs.Stores.{phaseBy, phase}
 use Rattle.history.specs.Claims.{common}
 use Rattle.history.proofs.EqualRuns.{equal-runs}
 use Rattle.history.proofs.Stored.{records-told}
+use Rattle.history.proofs.Stores.{store-told}
 
 store : List ℕ
 store = replicate 32768 0
@@ -74,3 +77,15 @@ held-told :
     → held (recordsOf (ran (start store) ps .state) c) x ≡ fetchedSince (backwards [] (journal store ps)) c x
 held-told store ps c x o below =
     ap (λ (rs : List Record). held rs x) (records-told store ps c o) ∙ runs-are-runs (fetchedSince (backwards [] (journal store ps)) c) .same x below
+
+-- Store told: a store of sevens, in which command 1 begins, fetches the count and ends. Its part is zero, and the others are as they were.
+sevens : List ℕ
+sevens = replicate 32768 7
+
+peek : List Call
+unfolding counting
+peek = begin 1 ∷ fetch 1 2 1 dest (counting 4) ∷ end 1 ∷ []
+
+store-after-end : ran (start sevens) peek .store ≡ replicate 4096 7 ++ replicate 4096 0 ++ replicate 24576 7
+unfolding same-firsts sevens peek endSays endState endStore backwards flatMap phase phaseBy
+store-after-end = store-told sevens peek

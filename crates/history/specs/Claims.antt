@@ -21,6 +21,7 @@ use Rattle.cache.specs.Runs.{destAfter, windowGiven, windowAfter, delivers}
 use Rattle.history.specs.Journal.{Event, event, journal, told, backwards, Deed, began, fetched, ended, other, deed}
 use Rattle.history.specs.Firsts.{Memory, memory, isKnown, fetchedSince, firsts, recall, owed}
 use Rattle.history.specs.Counts.{countsReplied, countsOwed, bytesReplied, sumOwed}
+use Rattle.history.specs.Stores.{storeOwed}
 
 -- Demand 2. The delivery rule: the bytes delivered at each call are those that the first fetches since the command's begin saw.
 abbrev pub DeliveryRule : Type 0
@@ -59,6 +60,11 @@ pub record Holding (store : List ℕ) (ps : List Call) (c : ℕ) : Type 0 where
 
 abbrev pub StoredBytes : Type 0
 StoredBytes = (store : List ℕ) (ps : List Call) (c : ℕ) → isOpen (ran (start store) ps .state) c ≡ true → Holding store ps c
+
+-- The whole store: after every list it is, byte for byte, what the store at the start and the calls say. A part never begun is as it was
+-- given, that of an open command has its held bytes and then zeros, and that of an ended one is zero.
+abbrev pub StoreTold : Type 0
+StoreTold = (store : List ℕ) (ps : List Call) → ran (start store) ps .store ≡ storeOwed store (backwards [] (journal store ps))
 
 -- Midas' invariant: where a command fetches an address twice, and nothing between the two renews the address for it, both deliver
 -- the same value there. What renews it is an accepted begin of the command, at every address. (An end between them does not matter:
@@ -121,6 +127,22 @@ pub record EqualRuns (store : List ℕ) (ps qs : List Call) : Type 0 where
 
 abbrev pub EqualRunsRule : Type 0
 EqualRunsRule = (store : List ℕ) (ps qs : List Call) → map common ps ≡ map common qs → EqualRuns store ps qs
+
+-- The same for more pairs of runs: of a destination, too, the length alone need be common. So what stood in a destination before a fetch
+-- shows in no answer, no state, no delivered byte and no store.
+abbrev pub blankDest : Call → Call
+blankDest (begin c) = begin c
+blankDest (fetch c a n dest window) = fetch c a n (blank dest) window
+blankDest (end c) = end c
+blankDest (hostWrite a bytes window) = hostWrite a bytes window
+blankDest (ownWrite c a bytes window) = ownWrite c a bytes window
+blankDest (show c i) = show c i
+
+abbrev pub commonLengths : Call → Call
+commonLengths p = blankDest (common p)
+
+abbrev pub EqualRunsLengths : Type 0
+EqualRunsLengths = (store : List ℕ) (ps qs : List Call) → map commonLengths ps ≡ map commonLengths qs → EqualRuns store ps qs
 
 -- After every list the state holds together, in the shape that words give a state, and so the answer 20 is never given.
 abbrev pub AlwaysHolds : Type 0

@@ -2,4 +2,5 @@ pub mod Journal
 pub mod Firsts
 pub mod Counts
 pub mod Answers
+pub mod Stores
 pub mod Claims
