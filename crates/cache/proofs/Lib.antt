@@ -1,2 +1,4 @@
 pub mod Accepted
+pub mod Tests
 pub mod Order
+pub mod Claims

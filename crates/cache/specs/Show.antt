@@ -11,9 +11,13 @@ use Rattle.cache.specs.declared.show.ShowAnswer.{ShowAnswer}
 use Rattle.cache.specs.declared.show.ShowAnswer.the-variants.{Record, Refused}
 
 module _ (s : State) (c i : ℕ) where
+  -- 25, of the record that is asked for
+  abbrev pub pastLast : Check
+  pastLast = noSuchRecord (recordsOf s c) i
+
   -- 6, 20, 21, 25
   abbrev pub showChecks : List Check
-  showChecks = commandTooHigh c ∷ stateBroken s ∷ commandNotOpen s c ∷ noSuchRecord (recordsOf s c) i ∷ []
+  showChecks = commandTooHigh c ∷ stateBroken s ∷ commandNotOpen s c ∷ pastLast ∷ []
 
   unfoldable pub showSays : Reply
   showSays = let r = getD (recordsOf s c) i noRecord in verdict showChecks (replied (r .start ∷ r .len ∷ []))

@@ -43,7 +43,7 @@ fn begin_words(state: &mut [u16], store: &mut [u8], command: usize) -> BeginAnsw
     match answer {
         BeginAnswer::Refused(why) => BeginAnswer::Refused(why),
         BeginAnswer::Done => {
-            part::zero(store, command);
+            part::zero(store, command, CacheState::HELD);
             let low = CacheState::COMMAND_WORDS * command;
             reset(&mut state[low..low + CacheState::COMMAND_WORDS], true);
             BeginAnswer::Done

@@ -51,7 +51,7 @@ fn end_words(state: &mut [u16], store: &mut [u8], command: usize) -> EndAnswer
     match answer {
         EndAnswer::Refused(why) => EndAnswer::Refused(why),
         EndAnswer::Done { records, bytes } => {
-            part::zero(store, command);
+            part::zero(store, command, CacheState::HELD);
             let low = CacheState::COMMAND_WORDS * command;
             reset(&mut state[low..low + CacheState::COMMAND_WORDS], false);
             EndAnswer::Done { records, bytes }

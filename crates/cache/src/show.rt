@@ -30,7 +30,9 @@ fn look(state: &[u16], command: usize, index: usize) -> ShowAnswer
     }
     let low = CacheState::COMMAND_WORDS * command;
     let own = &state[low..low + CacheState::COMMAND_WORDS];
-    if used(own) <= index {
+    // how many records there are from this one on
+    let left = octets::minus(used(own), index);
+    if left == 0 {
         return ShowAnswer::Refused(Refusal::NoSuchRecord);
     }
     let r = entry(own, index);

@@ -62,12 +62,12 @@ place-suc lo (r ∷ rs) x up = let u = ascends lo r rs up in go u (place-suc (su
 count-all : (rs : List Record) (xs : List ℕ) → countFresh rs xs + countHeld rs xs ≡ length xs
 unfolding countFresh countHeld
 count-all rs [] = refl
-count-all rs (x ∷ xs) = go (held rs x) (count-all rs xs)
+count-all rs (x ∷ xs) = go (held rs x) refl (count-all rs xs)
   where
-    go : (b : Bool) → countFresh rs xs + countHeld rs xs ≡ length xs
-        → cond b (countFresh rs xs) (suc (countFresh rs xs)) + cond b (suc (countHeld rs xs)) (countHeld rs xs) ≡ suc (length xs)
-    go true ih = omega arith
-    go false ih = omega arith
+    go : (b : Bool) → held rs x ≡ b → countFresh rs xs + countHeld rs xs ≡ length xs
+        → countFresh rs (x ∷ xs) + countHeld rs (x ∷ xs) ≡ suc (length xs)
+    go true h ih = rw h (omega arith)
+    go false h ih = rw h (omega arith)
 
 -- so the fresh addresses and the held ones of a span make up the span
 pub fresh-place : (lo : ℕ) (rs : List Record) (a n : ℕ) → ascending lo rs ≡ true → fresh rs a n + place rs (a + n) ≡ n + place rs a

@@ -18,9 +18,12 @@ partStart c = heldLimit * c
 abbrev pub location : State → ℕ → ℕ → ℕ
 location s c k = partStart c + k
 
--- the store with command c's part set to zero
+-- the store with the first n bytes of command c's part set to zero, and with all of the part
+abbrev pub cleared : List ℕ → (c n : ℕ) → List ℕ
+cleared store c n = overwrite store (partStart c) (replicate n 0)
+
 abbrev pub zeroed : List ℕ → ℕ → List ℕ
-zeroed store c = overwrite store (partStart c) (replicate heldLimit 0)
+zeroed store c = cleared store c heldLimit
 
 -- the store with a value for each address of these records packed in command c's part, in the order of the addresses; the places
 -- behind them stay

@@ -7,7 +7,7 @@ ghost use Rattle.state.specs.Limits.{commandLimit, heldLimit, storeSize, comman
 ghost use Rattle.state.specs.Records.{total};
 ghost use Rattle.state.specs.State.{recordsIn};
 ghost use Rattle.state.specs.Join.{replaced};
-ghost use Rattle.store.specs.Store.{partStart, zeroed, packed, from, sees};
+ghost use Rattle.store.specs.Store.{partStart, cleared, packed, from, sees};
 ghost use Rattle.store.specs.Hold.{Fits};
 ghost use Rattle.state.specs.Words.{commandIn};
 use crate::hold;
@@ -22,13 +22,13 @@ fn start(command: usize) -> usize
     CacheState::HELD * command
 }
 
-// Sets it to zero.
-pub fn zero(store: &mut [u8], command: usize)
-    requires { ⌜ (command < commandLimit) × (length (now store) ≡ storeSize) ⌝ }
-    ensures { λ _. ⌜ now (store .exit) ≡ zeroed (now (store .entry)) command ⌝ }
+// Sets its first `size` bytes to zero.
+pub fn zero(store: &mut [u8], command: usize, size: usize)
+    requires { ⌜ (command < commandLimit) × (length (now store) ≡ storeSize) × (size ≤ heldLimit) ⌝ }
+    ensures { λ _. ⌜ now (store .exit) ≡ cleared (now (store .entry)) command size ⌝ }
 {
     let low = start(command);
-    octets::clear(&mut store[low..low + CacheState::HELD]);
+    octets::clear(&mut store[low..low + size]);
 }
 
 // Holds a span in it: the records of the command are replaced by those after the join. The source's first byte has the address

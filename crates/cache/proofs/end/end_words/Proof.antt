@@ -65,7 +65,7 @@ end-words-spec =
     (λ c κs. search needs)
     (λ c. search needs)
     (λ c. search needs)
-    (λ c κs. let r = ready (c .before) in (r .command, r .size))
+    (λ c κs. let r = ready (c .before) in (r .command, r .size, omega arith))
     (λ c. let low = in-range c in omega arith)
     (λ c. let low = in-range c in omega arith)
     (λ c. let low = in-range c in omega arith)

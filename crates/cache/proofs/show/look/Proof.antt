@@ -8,7 +8,7 @@ use lib.Dec.{leb}
 use lib.ListN.{length, getD, length-take}
 use lib.Seq.{getD-take}
 use borrow.Author.Needs.{needs}
-use borrow.Author.Tests.{le-leb, lt-leb, not-true, not-false}
+use borrow.Author.Tests.{le-leb, lt-leb, leb-true, leb-false, not-true, not-false}
 use denote.Ref.{now}
 use Rattle.state.specs.declared.Record.{Record}
 use Rattle.state.specs.Limits.{commandLimit}
@@ -17,7 +17,8 @@ use Rattle.state.specs.Words.{commandIn, stateOf}
 use Rattle.state.specs.Verdict.{replied, verdict}
 use Rattle.words.proofs.EntryWords.{entry-at}
 use Rattle.words.proofs.StateWords.{lent, lent-command}
-use Rattle.cache.specs.Show.{showSays}
+use Rattle.cache.specs.Show.{pastLast, showSays}
+use Rattle.cache.proofs.Tests.{never-true, never-false}
 use Rattle.cache.proofs.show.look.Statement.{statement}
 use Rattle.cache.proofs.show.look.Tie as tie
 
@@ -55,27 +56,28 @@ returns-3 c =
 returns-4 : tie.Need-returns-4
 unfolding showSays verdict
 returns-4 c =
-    let opened = c .before .before .before in
+    let opened = c .before .before .before .before in
     let whole = opened .before .before in
-    let few = c .before .used .ensures .0 ∙ ap (λ (p : CommandState). length (recordsIn p)) (own opened) in
-    let start = opened .before .before .before .before .before .before in
-    rw (command-low (whole .before .before), state-whole whole, is-open opened, le-leb (length (recordsOf (stateOf (now (start .args .state))) (start .args .command))) (start .args .index) (omega arith))
+    let a = opened .before .before .before .before .before .before .args in
+    let many = c .before .before .used .ensures .0 ∙ ap (λ (p : CommandState). length (recordsIn p)) (own opened) in
+    let none-left = never-false (pastLast (stateOf (now (a .state))) (a .command) (a .index) .applies) (λ e. omega (arith, leb-false)) in
+    rw (command-low (whole .before .before), state-whole whole, is-open opened, none-left)
 
 returns-5 : tie.Need-returns-5
 unfolding showSays verdict
 returns-5 c =
-    let opened = c .before .before .before .before in
+    let opened = c .before .before .before .before .before in
     let whole = opened .before .before in
-    let start = opened .before .before .before .before .before .before in
-    let words = lent (now (start .args .state)) (start .args .command) in
+    let a = opened .before .before .before .before .before .before .args in
+    let words = lent (now (a .state)) (a .command) in
     let p = commandIn words in
-    let i = start .args .index in
-    let many = c .before .before .used .ensures .0 in
+    let i = a .index in
+    let used = c .before .before .before .used .ensures .0 in
     let below : i < p .count = omega (arith, length-take (p .count) (p .records)) in
     let found = c .entry .ensures ∙ sym (getD-take (p .count) (p .records) i noRecord below ∙ entry-at words i (omega arith)) ∙ ap (λ (q : CommandState). getD (recordsIn q) i noRecord) (own opened) in
-    let more : i < length (recordsOf (stateOf (now (start .args .state))) (start .args .command))
-    = omega (arith, ap (λ (q : CommandState). length (recordsIn q)) (own opened)) in
-    rw (command-low (whole .before .before), state-whole whole, is-open opened, lt-leb _ i more) (ap (λ (r : Record). replied (r .start ∷ r .len ∷ [])) found)
+    let many = used ∙ ap (λ (q : CommandState). length (recordsIn q)) (own opened) in
+    let some-left = never-true (pastLast (stateOf (now (a .state))) (a .command) i .applies) (λ e. omega (arith, leb-true)) in
+    rw (command-low (whole .before .before), state-whole whole, is-open opened, some-left) (ap (λ (r : Record). replied (r .start ∷ r .len ∷ [])) found)
 
 pub look-spec : {M : Type 1} → statement M
 look-spec =
@@ -92,6 +94,7 @@ look-spec =
     (λ c. search needs)
     (λ c. search needs)
     (λ c. search needs)
+    (λ c κs. search needs)
     (λ c κs. search needs)
     returns-4
     (λ c κs. search needs)

@@ -44,7 +44,7 @@ pub read-host-spec : {M : Type 1} → statement M
 read-host-spec =
     tie.close
     (tie.spec
-    (λ c. inside c .0)
+    (λ c. let near = inside c in omega arith)
     (λ c. let near = inside c in omega arith)
     (λ c. search needs)
     (λ c. search needs)

@@ -1,0 +1,67 @@
+-- Show gives every record of an open command and 25 behind the last; begin and end leave a part of zeros.
+use Prim.Native.Nat.{ℕ, suc, _+_, _≤_, _<_}
+use native.Mathlib.Omega.{arith}
+use mathlib.Core.Path.{_≡_, refl, ap, ap₂, _∙_}
+use mathlib.Core.List.{List, [], _∷_, _++_, map, append-assoc}
+use mathlib.Core.Bool.{true, false}
+use lib.ListN.{length, take, drop, getD, replicate, length-replicate}
+use lib.Seq.{length-take-le, take-at, drop-at}
+use borrow.Author.Tests.{leb-true, leb-false, lt-leb}
+use Rattle.octets.specs.Lists.{overwrite, part}
+use Rattle.state.specs.declared.Record.{Record}
+use Rattle.state.specs.Limits.{commandLimit, heldLimit}
+use Rattle.state.specs.Records.{span}
+use Rattle.state.specs.State.{State, recordsOf, noRecord, isOpen, holds}
+use Rattle.state.specs.Verdict.{Reply, refused, replied, accepted, verdict}
+use Rattle.store.specs.Store.{partStart, zeroed}
+use Rattle.cache.specs.Begin.{beginSays, beginStore}
+use Rattle.cache.specs.End.{endSays, endStore}
+use Rattle.cache.specs.Show.{pastLast, showSays}
+use Rattle.cache.specs.Claims.{Shown, ShowsAll, Zeroed, PartsZeroed}
+use Rattle.cache.proofs.Accepted.{Ready, begun, ended}
+use Rattle.cache.proofs.Tests.{never-true, never-false}
+
+-- what is made of a list's numbers and of its records is the same list, if it is the same at each number
+each-record :
+    (f : ℕ → Reply) (g : Record → Reply) (k : ℕ) (rs : List Record) → ((i : ℕ) → i < length rs → f (k + i) ≡ g (getD rs i noRecord))
+    → map f (span k (length rs)) ≡ map g rs
+unfolding span
+each-record f g k [] same = refl
+each-record f g k (r ∷ rs) same =
+    ap₂ _∷_ (ap f (omega arith) ∙ same 0 (omega arith))
+    (each-record f g (suc k) rs (λ i h. ap f (omega arith) ∙ same (suc i) (omega arith)))
+
+module _ (s : State) (c : ℕ) (whole : holds s ≡ true) (low : c < commandLimit) (opened : isOpen s c ≡ true) where
+  record-given : (i : ℕ) → i < length (recordsOf s c) → showSays s c i ≡ replied (getD (recordsOf s c) i noRecord .start ∷ getD (recordsOf s c) i noRecord .len ∷ [])
+  unfolding showSays verdict
+  record-given i h =
+      let there = never-true (pastLast s c i .applies) (λ e. omega (arith, leb-true)) in
+      rw (lt-leb commandLimit c low, whole, opened, there)
+
+  none-behind : (i : ℕ) → length (recordsOf s c) ≤ i → showSays s c i ≡ refused 25
+  unfolding showSays verdict
+  none-behind i h =
+      let past = never-false (pastLast s c i .applies) (λ e. omega (arith, leb-false)) in
+      rw (lt-leb commandLimit c low, whole, opened, past)
+
+pub shows-all : ShowsAll
+shows-all s c whole low opened = record {
+  records = each-record (showSays s c) (λ r. replied (r .start ∷ r .len ∷ [])) 0 (recordsOf s c) (λ i h. ap (showSays s c) (omega arith) ∙ record-given s c whole low opened i h);
+  behind = none-behind s c whole low opened;
+}
+
+-- what was written stands there
+written : (buffer bytes : List ℕ) (at n : ℕ) → at ≤ length buffer → length bytes ≡ n → part (overwrite buffer at bytes) at n ≡ bytes
+written buffer bytes at n inside size =
+    let rest = drop (at + length bytes) buffer in
+    rw (append-assoc (take at buffer) bytes rest, drop-at (take at buffer) (bytes ++ rest) at (length-take-le at buffer inside)) (take-at bytes rest n size)
+
+pub parts-zeroed : PartsZeroed
+unfolding beginStore endStore
+parts-zeroed s store c = record {
+  begun = λ e. rw e (zeros (begun s (length store) c e));
+  ended = λ e. rw e (zeros (ended s (length store) c e));
+}
+  where
+    zeros : Ready s (length store) c → part (zeroed store c) (partStart c) heldLimit ≡ replicate heldLimit 0
+    zeros r = written store (replicate heldLimit 0) (partStart c) heldLimit (omega (arith, r .command, r .size)) (length-replicate {A = ℕ} heldLimit 0)
