@@ -1,13 +1,8 @@
 // The calls.
 ghost use mathlib.Core.Path.{_≡_};
-ghost use lib.ListN.{length};
 ghost use Rattle.state.specs.State.{freshState};
 ghost use Rattle.state.specs.Words.{stateOf};
-ghost use Rattle.cache.specs.HostWrite.{hostSays, hostWindow};
-ghost use Rattle.cache.specs.OwnWrite.{ownSays, ownWindow};
-ghost use Rattle.cache.specs.Show.{showSays};
-ghost use Rattle.replies.specs.Replies.{writtenOf, shownOf};
-ghost use Rattle.doorclover.specs.Calls.{Begins, Ends, Fetches};
+ghost use Rattle.doorclover.specs.Calls.{Begins, Ends, Fetches, HostWrites, OwnWrites, Shows};
 use replies::Begun;
 use replies::Ended;
 use replies::Fetched;
@@ -69,8 +64,7 @@ pub extern "C" fn doorclover_end(
 
 #[no_mangle]
 pub extern "C" fn doorclover_host_write(window: &mut [u8], address: usize, bytes: &[u8]) -> Written
-    ensures reply { λ r. ⌜ r ≡ writtenOf (hostSays (length (now (window .entry))) address (length (now (bytes .entry)))) ⌝ }
-    ensures window { λ _. ⌜ now (window .exit) ≡ hostWindow (now (window .entry)) address (now (bytes .entry)) ⌝ }
+    ensures { λ r. ⌜ HostWrites (now (window .entry)) address (now (bytes .entry)) r (now (window .exit)) ⌝ }
 {
     write_reply(cache::host_write::host_write(window, address, bytes))
 }
@@ -85,10 +79,7 @@ pub extern "C" fn doorclover_own_write(
     address: usize,
     bytes: &[u8],
 ) -> Written
-    ensures reply { λ r. ⌜ r ≡ writtenOf (ownSays (stateOf (now (state .entry))) (length (now (window .entry))) command address (length (now (bytes .entry)))) ⌝ }
-    ensures state { λ _. ⌜ now (state .exit) ≡ now (state .entry) ⌝ }
-    ensures store { λ _. ⌜ now (store .exit) ≡ now (store .entry) ⌝ }
-    ensures window { λ _. ⌜ now (window .exit) ≡ ownWindow (stateOf (now (state .entry))) (now (window .entry)) command address (now (bytes .entry)) ⌝ }
+    ensures { λ r. ⌜ OwnWrites (now (state .entry)) (now (store .entry)) (now (window .entry)) command address (now (bytes .entry)) r (now (state .exit)) (now (store .exit)) (now (window .exit)) ⌝ }
 {
     write_reply(cache::own_write::own_write(state, window, command, address, bytes))
 }
@@ -99,7 +90,7 @@ pub extern "C" fn doorclover_show(
     command: usize,
     index: usize,
 ) -> Shown
-    ensures { λ r. ⌜ r ≡ shownOf (showSays (stateOf (now (state .entry))) command index) ⌝ }
+    ensures { λ r. ⌜ Shows (now (state .entry)) command index r ⌝ }
 {
     show_reply(cache::show::show(state, command, index))
 }

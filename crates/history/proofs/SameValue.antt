@@ -42,7 +42,7 @@ stays-along past (e ∷ es) c x v known h =
     stays-along (e ∷ past) es c x v (stays (memory past) (deed e) c x v known here) rest
 
 -- the byte delivered for an address of the span
-delivered-at :
+pub delivered-at :
     (m : Machine) (mem : Memory) (c a n : ℕ) (dest window : List ℕ) → Sound m mem → accepted (says m (fetch c a n dest window)) ≡ true
     → (x : ℕ) → inSpan a n x ≡ true → getD (delivers m (fetch c a n dest window)) (x - a) 0 ≡ recall (orElse (mem c x) (getD window x 0))
 unfolding owedBy

@@ -8,7 +8,7 @@ use Rattle.doorclover.proofs.calls.doorclover_host_write.Tie as tie
 returns : tie.Need-returns
 returns c =
     let e = c .before .before .before .host-write .ensures in
-    (c .write-reply .ensures ∙ ap writtenOf (e .0), e .1)
+    record { answer = c .write-reply .ensures ∙ ap writtenOf (e .0); host = e .1 }
 
 pub doorclover-host-write-spec : {M : Type 1} → statement M
 doorclover-host-write-spec =

@@ -8,7 +8,7 @@ use Rattle.doorclover.proofs.calls.doorclover_own_write.Tie as tie
 returns : tie.Need-returns
 returns c =
     let e = c .before .before .before .own-write .ensures in
-    (c .write-reply .ensures ∙ ap writtenOf (e .0), (refl, (refl, e .1)))
+    record { answer = c .write-reply .ensures ∙ ap writtenOf (e .0); state = refl; stored = refl; host = e .1 }
 
 pub doorclover-own-write-spec : {M : Type 1} → statement M
 doorclover-own-write-spec =

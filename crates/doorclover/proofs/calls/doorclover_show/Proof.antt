@@ -6,7 +6,7 @@ use Rattle.doorclover.proofs.calls.doorclover_show.Statement.{statement
 use Rattle.doorclover.proofs.calls.doorclover_show.Tie as tie
 
 returns : tie.Need-returns
-returns c = c .show-reply .ensures ∙ ap shownOf (c .before .show .ensures)
+returns c = record { answer = c .show-reply .ensures ∙ ap shownOf (c .before .show .ensures) }
 
 pub doorclover-show-spec : {M : Type 1} → statement M
 doorclover-show-spec =

@@ -1,0 +1,168 @@
+-- What a command is given of an address that was written before: Midas' second property, that a fetch which is a command's first of an
+-- address gets the latest bytes there (docs/RULES.md says what Midas is). It is told from the calls made on one device, whose window each call
+-- leaves to the next.
+use Prim.Native.Nat.{ℕ, _-_}
+use mathlib.Core.Path.{_≡_}
+use mathlib.Core.List.{List, [], _∷_, _++_}
+use mathlib.Core.Bool.{Bool, true, false, not, cond, _&&_}
+use lib.ListN.{length, getD}
+use Rattle.octets.specs.Lists.{all}
+use Rattle.state.specs.Records.{inSpan}
+use Rattle.state.specs.Verdict.{accepted}
+use Rattle.cache.specs.Runs.{Call, begin, fetch, end, hostWrite, ownWrite, show, says, delivers, along}
+use Rattle.history.specs.Journal.{Event, event, backwards, deed}
+use Rattle.history.specs.Firsts.{fetchedSince}
+use Rattle.history.specs.Claims.{renews}
+use Rattle.device.specs.Step.{Device, deviceAfter}
+use Rattle.journal.specs.Run.{freshDevice}
+
+-- A call without what the device lends to it
+pub data Request : Type 0 where
+  begins : (c : ℕ) → Request
+  fetches : (c a n : ℕ) → Request
+  ends : (c : ℕ) → Request
+  hostWrites : (a : ℕ) (bytes : List ℕ) → Request
+  ownWrites : (c a : ℕ) (bytes : List ℕ) → Request
+  shows : (c i : ℕ) → Request
+
+-- and with it: the destination and the window as they are
+abbrev pub callOn : Device → Request → Call
+callOn d (begins c) = begin c
+callOn d (fetches c a n) = fetch c a n (d .dest) (d .window)
+callOn d (ends c) = end c
+callOn d (hostWrites a bytes) = hostWrite a bytes (d .window)
+callOn d (ownWrites c a bytes) = ownWrite c a bytes (d .window)
+callOn d (shows c i) = show c i
+
+abbrev pub next : Device → Request → Device
+next d q = deviceAfter d (callOn d q)
+
+-- the calls that a list of requests makes, and the device after them
+unfoldable pub made : Device → List Request → List Call
+made d [] = []
+made d (q ∷ qs) = callOn d q ∷ made (next d q) qs
+
+unfoldable pub left : Device → List Request → Device
+left d [] = d
+left d (q ∷ qs) = left (next d q) qs
+
+-- what happened, the latest first, if it is told on from the events before
+abbrev pub pastFrom : List Event → Device → List Request → List Event
+pastFrom past d qs = backwards past (along event (d .machine) (made d qs))
+
+-- does a call write at an address, if it is accepted? The host's write does, and a command's.
+abbrev pub reaches : Call → ℕ → Bool
+reaches (begin c) x = false
+reaches (fetch c a n dest window) x = false
+reaches (end c) x = false
+reaches (hostWrite a bytes window) x = inSpan a (length bytes) x
+reaches (ownWrite c a bytes window) x = inSpan a (length bytes) x
+reaches (show c i) x = false
+
+abbrev pub writes : ℕ → Event → Bool
+writes x e = reaches (e .call) x && accepted (e .answer)
+
+-- the byte that a write has for an address
+abbrev pub byteFor : Call → ℕ → ℕ
+byteFor (begin c) x = 0
+byteFor (fetch c a n dest window) x = 0
+byteFor (end c) x = 0
+byteFor (hostWrite a bytes window) x = getD bytes (x - a) 0
+byteFor (ownWrite c a bytes window) x = getD bytes (x - a) 0
+byteFor (show c i) x = 0
+
+-- the byte of the latest accepted write at an address, and the one of the window at the start where there is none
+unfoldable pub latest : (window : List ℕ) → List Event → ℕ → ℕ
+latest window [] x = getD window x 0
+latest window (e ∷ past) x = cond (writes x e) (byteFor (e .call) x) (latest window past x)
+
+-- is a fetch accepted that has an address in its span, and which byte does it deliver there?
+module _ (d : Device) (c a n x : ℕ) where
+  abbrev pub isFetched : Bool
+  isFetched = accepted (says (d .machine) (callOn d (fetches c a n))) && inSpan a n x
+
+  abbrev pub byteAt : ℕ
+  byteAt = getD (delivers (d .machine) (callOn d (fetches c a n))) (x - a) 0
+
+-- Whatever was called on a device from the fresh state on: an accepted fetch that is the command's first of an address since its begin gets
+-- the byte of the latest accepted write there, whoever made it.
+abbrev pub FirstGetsLatest : Type 0
+FirstGetsLatest =
+    (store window dest : List ℕ) (qs : List Request) (c a n x : ℕ) →
+    let start = freshDevice store window dest in
+    isFetched (left start qs) c a n x ≡ true → fetchedSince (pastFrom [] start qs) c x ≡ false
+    → byteAt (left start qs) c a n x ≡ latest window (pastFrom [] start qs) x
+
+-- A write, some calls after it, and a fetch
+module _ (store window dest : List ℕ) (before : List Request) (write : Request) (between : List Request) where
+  abbrev pub beforeWrite : Device
+  beforeWrite = left (freshDevice store window dest) before
+
+  abbrev pub pastOfWrite : List Event
+  pastOfWrite = pastFrom [] (freshDevice store window dest) before
+
+  abbrev pub theWrite : Event
+  theWrite = event (beforeWrite .machine) (callOn beforeWrite write)
+
+  abbrev pub afterWrite : Device
+  afterWrite = next beforeWrite write
+
+  abbrev pub eventsBetween : List Event
+  eventsBetween = along event (afterWrite .machine) (made afterWrite between)
+
+  abbrev pub beforeFetch : Device
+  beforeFetch = left afterWrite between
+
+  -- The write is accepted and has the address in its span, and no accepted write of the host or of a command at the address comes between.
+  -- Nothing else changes the window of a device.
+  abbrev pub isUndisturbed : ℕ → Bool
+  isUndisturbed x = writes x theWrite && all (λ e. not (writes x e)) eventsBetween
+
+  abbrev pub getsWritten : (c a n x : ℕ) → Type 0
+  getsWritten c a n x = byteAt beforeFetch c a n x ≡ byteFor (theWrite .call) x
+
+  -- the fetch is the command's first of the address since its begin
+  abbrev pub SeesWritten : Type 0
+  SeesWritten =
+      (c a n x : ℕ) → isUndisturbed x ≡ true → isFetched beforeFetch c a n x ≡ true
+      → fetchedSince (backwards (theWrite ∷ pastOfWrite) eventsBetween) c x ≡ false → getsWritten c a n x
+
+  -- the command began after the write, whichever command wrote, and has not fetched the address since
+  abbrev pub SeesEarlier : Type 0
+  SeesEarlier =
+      (c a n x : ℕ) → isUndisturbed x ≡ true → isFetched beforeFetch c a n x ≡ true
+      → all (λ e. not (renews c x (deed e))) eventsBetween ≡ false → fetchedSince (backwards [] eventsBetween) c x ≡ false → getsWritten c a n x
+
+-- Midas' second property: the first fetch of an address after a write there gets the written byte.
+abbrev pub WrittenSeen : Type 0
+WrittenSeen = (store window dest : List ℕ) (before : List Request) (write : Request) (between : List Request) → SeesWritten store window dest before write between
+
+-- So a later command sees what an earlier one wrote.
+abbrev pub LaterCommandSees : Type 0
+LaterCommandSees =
+    (store window dest : List ℕ) (before : List Request) (write : Request) (between : List Request) → SeesEarlier store window dest before write between
+
+-- Situation K of 01, whatever was called before it, for every command, address and bytes: fetch, host write over the span, end, begin, and the
+-- same fetch delivers what the host wrote.
+module _ (store window dest : List ℕ) (before : List Request) (c a : ℕ) (bytes : List ℕ) where
+  abbrev pub afterFetch : Device
+  afterFetch = left (freshDevice store window dest) (before ++ fetches c a (length bytes) ∷ [])
+
+  abbrev pub afterHost : Device
+  afterHost = next afterFetch (hostWrites a bytes)
+
+  abbrev pub afterEnd : Device
+  afterEnd = next afterHost (ends c)
+
+  abbrev pub afterBegin : Device
+  afterBegin = next afterEnd (begins c)
+
+  abbrev pub NewBytes : Type 0
+  NewBytes =
+      accepted (says (afterFetch .machine) (callOn afterFetch (hostWrites a bytes))) ≡ true
+      → accepted (says (afterEnd .machine) (begin c)) ≡ true
+      → accepted (says (afterBegin .machine) (callOn afterBegin (fetches c a (length bytes)))) ≡ true
+      → delivers (afterBegin .machine) (callOn afterBegin (fetches c a (length bytes))) ≡ bytes
+
+abbrev pub SituationK : Type 0
+SituationK = (store window dest : List ℕ) (before : List Request) (c a : ℕ) (bytes : List ℕ) → NewBytes store window dest before c a bytes
