@@ -3,24 +3,26 @@
 -- another begin.
 use Prim.Native.Nat.{ℕ}
 use native.Mathlib.Omega.{arith}
-use mathlib.Core.Path.{_≡_, refl}
+use mathlib.Core.Path.{_≡_, refl, ap, _∙_}
 use mathlib.Core.List.{List, [], _∷_, map}
 use mathlib.Core.Logic.{_≢_}
 use mathlib.Core.Bool.{true, false, not}
 use lib.ListN.{replicate}
 use Rattle.octets.specs.Lists.{all}
 use Rattle.state.specs.Records.{held, span, addresses, total, place, countFresh, countHeld, keep, lowest, highest, joined}
-use Rattle.state.specs.State.{ascending, commandHolds, holds}
+use Rattle.state.specs.State.{isOpen, ascending, commandHolds, holds}
 use Rattle.state.specs.Verdict.{Reply, refused, replied, verdict, accepted}
 use Rattle.cache.specs.Begin.{beginSays, beginState, beginStore}
 use Rattle.cache.specs.Fetch.{fetchSays, fetchState, fetchStore, fetchDest}
 use Rattle.cache.specs.End.{endSays, endState, endStore}
-use Rattle.cache.specs.Runs.{Call, begin, fetch, end, hostWrite, ownWrite, show, start, along, delivers}
+use Rattle.cache.specs.Runs.{Call, begin, fetch, end, hostWrite, ownWrite, show, start, along, ran, delivers}
 use Rattle.history.specs.Journal.{Event, journal, told, backwards, deed}
 use Rattle.history.specs.Firsts.{remember, memory, finds, fetchedSince, First, firstsAmong, firstsBy, firsts, owedBy, owed}
 use Rattle.history.specs.Counts.{count, countsBy, countsOwed, add, freshSince, sumOwed}
-use Rattle.history.specs.Answers.{opens, openSince, replayCount, firstCount, answerOwed}
+use Rattle.history.specs.Answers.{opens, openSince, replayCount, firstCount, answerOwed, eventsOf, spare}
 use Rattle.history.specs.Claims.{renews, mayChange, common}
+use Rattle.history.proofs.Tied.{open-told}
+use Rattle.history.proofs.Meet.{counts-meet}
 
 abbrev dest : List ℕ
 dest = 0 ∷ 0 ∷ 0 ∷ []
@@ -98,6 +100,18 @@ owed-now = refl
 counts-now : replayCount past 2 0 3 ∷ firstCount past 2 0 3 ∷ [] ≡ 1 ∷ 2 ∷ []
 unfolding run backwards finds fetchedSince accepted count span
 counts-now = refl
+
+-- and of its 4,096 places one is handed out and the others are spare, by the claims and without a count of all addresses
+open-told-now : isOpen (ran (start (replicate 32768 3)) calls .state) 2 ≡ true
+unfolding open-now
+open-told-now = open-told (replicate 32768 3) calls 2 ∙ ap (λ (es : List Event). openSince (backwards [] es) 2) is-run
+
+fresh-now : freshSince (eventsOf (replicate 32768 3) calls) 2 ≡ 1
+unfolding run backwards add freshSince accepted
+fresh-now = ap (λ (es : List Event). freshSince (backwards [] es) 2) is-run
+
+spare-now : spare (eventsOf (replicate 32768 3) calls) 2 ≡ 4095
+spare-now = omega (arith, fresh-now, counts-meet (replicate 32768 3) calls 2 open-told-now .meet)
 
 -- command 1 begins anew in this run
 begins-anew : all (λ e. not (renews 1 0 (deed e))) run ≡ false

@@ -123,25 +123,26 @@ OpenTold =
 abbrev pub AnswersTold : Type 0
 AnswersTold = (store : List ℕ) (ps : List Call) → along says (start store) ps ≡ told (answersOwed (length store)) [] (journal store ps)
 
--- The same with no run at all behind it: calls and the length of the store alone give every answer, each by the answers owed before it.
+-- what a list of calls is owed, each call by the calls before it and by what these were owed
 unfoldable pub answersGiven : (storeLen : ℕ) → List Event → List Call → List Reply
 answersGiven storeLen past [] = []
 answersGiven storeLen past (p ∷ ps) =
     let r = answerOwed storeLen past p in r ∷ answersGiven storeLen (record { call = p; answer = r } ∷ past) ps
 
+-- The same with no run behind it: the calls and, of the store, its length alone give every answer of every list.
 abbrev pub CallsGiveAnswers : Type 0
 CallsGiveAnswers = (store : List ℕ) (ps : List Call) → along says (start store) ps ≡ answersGiven (length store) [] ps
 
--- The order's second question, two counts of what is spare and how they meet. One counts every place of a command's part of the store,
--- 4,096. The other counts the places that are not handed out yet: those less one for each address that the command has fetched since its
--- begin.
+-- how many of a command's 4,096 places are spare: one less for each address that it has fetched since its begin
 abbrev pub spare : List Event → (c : ℕ) → ℕ
 spare past c = heldLimit - fetchedCount past c
 
+-- The order's question what is spare, and how two counts of it meet. One counts every place that a command has, 4,096; the other counts the
+-- places that are not handed out yet. They differ by what the replies since the command's begin have handed out.
 pub record Meets (store : List ℕ) (ps : List Call) (c : ℕ) : Type 0 where
   -- the bytes that its records hold are the addresses that it has fetched since its begin, each counted once
   pub held : total (recordsOf (ran (start store) ps .state) c) ≡ fetchedCount (eventsOf store ps) c
-  -- and these are as many as the fresh counts that it was replied since its begin come to
+  -- and these are as many as the fresh counts replied to it since its begin come to
   pub handedOut : fetchedCount (eventsOf store ps) c ≡ freshSince (eventsOf store ps) c
   -- the two counts meet: every place is spare, or was handed out by a reply since the begin
   pub meet : freshSince (eventsOf store ps) c + spare (eventsOf store ps) c ≡ heldLimit
@@ -152,6 +153,6 @@ pub record Meets (store : List ℕ) (ps : List Call) (c : ℕ) : Type 0 where
       → (says (ran (start store) ps) (fetch c a n dest window) ≡ refused (number TooManyBytes))
       ↔ (spare (eventsOf store ps) c < firstCount (eventsOf store ps) c a n)
 
--- After every list, for every open command.
+-- So it is after every list, for every open command.
 abbrev pub CountsMeet : Type 0
 CountsMeet = (store : List ℕ) (ps : List Call) (c : ℕ) → isOpen (ran (start store) ps .state) c ≡ true → Meets store ps c
