@@ -1,5 +1,5 @@
 pub mod Journal
 pub mod Firsts
-pub mod Counts
 pub mod Stores
+pub mod Counts
 pub mod Claims
