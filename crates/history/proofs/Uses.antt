@@ -22,7 +22,7 @@ use Rattle.history.specs.Journal.{journal, told, backwards}
 use Rattle.history.specs.Firsts.{remember, memory, fetchedSince, First, firstsAmong, firstsBy, firsts}
 use Rattle.history.specs.Stores.{phaseBy, phase}
 use Rattle.history.specs.Claims.{common}
-use Rattle.history.proofs.EqualRuns.{equal-runs}
+use Rattle.history.proofs.EqualRuns.{equal-runs, equal-runs-lengths}
 use Rattle.history.proofs.Stored.{records-told}
 use Rattle.history.proofs.Stores.{store-told}
 
@@ -70,6 +70,16 @@ unfolding retire common
 other-delivered h =
     let runs = equal-runs store (retire 4 40) (retire 5 40) refl in
     other-firsts (runs .exactly .0 (runs .answers, h))
+
+-- The same count fetched into zeros and into nines: the two destinations have nothing in common but their length, and the bytes delivered
+-- are the same.
+into : List ℕ → List Call
+unfolding counting
+into bytes = begin 1 ∷ fetch 1 2 1 bytes (counting 4) ∷ []
+
+same-into : along delivers (start store) (into (0 ∷ 0 ∷ [])) ≡ along delivers (start store) (into (9 ∷ 9 ∷ []))
+unfolding same-firsts into common
+same-into = equal-runs-lengths store (into (0 ∷ 0 ∷ [])) (into (9 ∷ 9 ∷ [])) refl .exactly .1 refl .1
 
 -- Records told: an address below 65,536 is in a record of an open command exactly if the command has fetched it since its begin.
 held-told :

@@ -1,6 +1,6 @@
 pub mod Journal
 pub mod Firsts
+pub mod Stores
 pub mod Counts
 pub mod Answers
-pub mod Stores
 pub mod Claims
