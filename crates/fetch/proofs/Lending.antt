@@ -2,7 +2,7 @@
 use Prim.Native.Nat.{ℕ, _+_, _-_, _≤_, _<_}
 use native.Mathlib.Omega.{arith}
 use mathlib.Core.Path.{_≡_, refl, ap, sym, subst, _∙_}
-use mathlib.Core.List.{List, []}
+use mathlib.Core.List.{List, [], _∷_}
 use mathlib.Core.Bool.{true, false, false≢true}
 use lib.ListN.{length, drop}
 use Rattle.octets.specs.Lists.{overwrite, part}
@@ -28,7 +28,7 @@ use Rattle.fetch.specs.declared.FetchAnswer.the-variants.{Done, Refused}
 use Rattle.admission.specs.declared.plan.Finding.{Finding}
 use Rattle.admission.specs.declared.plan.Finding.the-variants.{Span, Bytes, Records}
 use Rattle.admission.specs.Plan.{Plan, Plans}
-use Rattle.fetch.specs.Fetch.{Fetches}
+use Rattle.fetch.specs.Fetch.{fetchReply, Fetches}
 use Rattle.fetch.proofs.Fetching.{Leaves, Admits, admits, barred-fetch, none-fetched, fresh-most, over-bytes, over-records, span-fits, place-fits}
 use Rattle.fetch.proofs.Fetching.{span-fetched}
 
@@ -79,9 +79,9 @@ pub record SpanRoom (words store window dest : List ℕ) (c a n : ℕ) (m : Meet
   pub few : m .first + 1 + (length (recordsIn (commandIn (lent words c))) - m .last) ≤ recordLimit
   pub fresh : new ≤ n
   pub done :
-      (ws store′ dest′ : List ℕ) → length ws ≡ commandWords → commandIn ws ≡ spliced (commandIn (lent words c)) m → store′ ≡ heldOf (commandIn (lent words c)) c store window m
+      (r : FetchAnswer) (ws store′ dest′ : List ℕ) → fetchReply r ≡ replied (new ∷ (n - new) ∷ []) → length ws ≡ commandWords → commandIn ws ≡ spliced (commandIn (lent words c)) m → store′ ≡ heldOf (commandIn (lent words c)) c store window m
       → dest′ ≡ overwrite dest 0 (part store′ (partStart c + place) n)
-      → Fetches words store window dest c a n (Done new (n - new)) (returned words c ws) store′ dest′
+      → Fetches words store window dest c a n r (returned words c ws) store′ dest′
 
 -- A span. All is told of the command's words as they are lent.
 module _ (words store window dest : List ℕ) (c a n : ℕ) (whole : length words ≡ stateWords)
@@ -146,7 +146,7 @@ module _ (words store window dest : List ℕ) (c a n : ℕ) (whole : length word
     joined-few = rw (P .meets) (P .few)
 
     -- the span is held and delivered, and the union is in the command's words
-    module _ (ws store′ dest′ : List ℕ) (size : length ws ≡ commandWords) (command : commandIn ws ≡ spliced (commandIn (lent words c)) m)
+    module _ (r : FetchAnswer) (ws store′ dest′ : List ℕ) (told : fetchReply r ≡ replied (fresh ∷ (n - fresh) ∷ [])) (size : length ws ≡ commandWords) (command : commandIn ws ≡ spliced (commandIn (lent words c)) m)
         (bytes : store′ ≡ heldOf (commandIn (lent words c)) c store window m) (given : dest′ ≡ overwrite dest 0 (part store′ (partStart c + place) n)) where
       joined-command : commandIn ws ≡ j .command
       unfolding join
@@ -166,9 +166,9 @@ module _ (words store window dest : List ℕ) (c a n : ℕ) (whole : length word
       unfolding accepted
       taken = ap accepted (sym (leaves .answer))
 
-      done : Fetches words store window dest c a n (Done fresh (n - fresh)) (returned words c ws) store′ dest′
+      done : Fetches words store window dest c a n r (returned words c ws) store′ dest′
       done = record {
-        answer = leaves .answer;
+        answer = told ∙ leaves .answer;
         state = leaves .state;
         kept = λ no. absurd (false≢true (sym no ∙ taken));
         bytes = leaves .bytes;

@@ -62,10 +62,8 @@ fn fetch_span(
             );
             part::deliver(store, command, place, size, destination);
             splice(&mut state[low..high], m);
-            FetchAnswer::Done {
-                fresh,
-                replayed: size - fresh,
-            }
+            let replayed = size - fresh;
+            FetchAnswer::Done { fresh, replayed }
         }
     }
 }

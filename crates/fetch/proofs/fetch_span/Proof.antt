@@ -1,7 +1,7 @@
 -- The search decides: refused, everything is as it was; accepted, the span is held and delivered, and then the words are changed.
 use Prim.Native.Nat.{ℕ}
 use native.Mathlib.Omega.{arith}
-use mathlib.Core.Path.{subst}
+use mathlib.Core.Path.{refl, subst}
 use denote.Ref.{now}
 use borrow.Author.Needs.{needs}
 use Rattle.state.specs.declared.Meeting.{Meeting}
@@ -103,8 +103,8 @@ splice-requires c κs =
     let r = R k in
     (given (s k) .sized, r .opened, r .order, r .most, r .few)
 
-sub-t28 : tie.Need-sub-t28
-sub-t28 c = R (planned-at (held-at (c .before .before .before .before))) .fresh
+sub-replayed : tie.Need-sub-replayed
+sub-replayed c = R (planned-at (held-at (c .before .before .before .before))) .fresh
 
 returns : tie.Need-returns
 returns c =
@@ -125,7 +125,7 @@ returns-3 c =
     let put = c .before .before in
     let delivered = put .before .before in
     let held = held-at delivered in
-    R (planned-at held) .done (put .splice .last .0) (held .hold .last .0) _ (put .splice .ensures .1) (put .splice .ensures .0) (held .hold .ensures)
+    R (planned-at held) .done _ (put .splice .last .0) (held .hold .last .0) _ refl (put .splice .ensures .1) (put .splice .ensures .0) (held .hold .ensures)
     (delivered .before .before .deliver .ensures)
 
 pub fetch-span-spec : {M : Type 1} → statement M
@@ -153,7 +153,7 @@ fetch-span-spec =
     (λ c. search needs)
     part-splice-end
     splice-requires
-    sub-t28
+    sub-replayed
     (λ c. search needs)
     returns
     (λ c. search needs)
