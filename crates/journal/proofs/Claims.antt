@@ -33,12 +33,12 @@ module _ (d : Device) (frame : List ℕ) (e : isReadable frame ≡ true) where
   machine-is = rw e
 
 -- a first readable frame is a first call, and an unreadable one is none
-calls-read : (k : ℕ) (d : Device) (x : ℕ) (xs : List ℕ) → isReadable (x ∷ xs) ≡ true
+pub calls-read : (k : ℕ) (d : Device) (x : ℕ) (xs : List ℕ) → isReadable (x ∷ xs) ≡ true
     → callsIn (suc k) d (x ∷ xs) ≡ frameCall d (x ∷ xs) ∷ callsIn k (frameLeaves d (x ∷ xs)) (drop (takenUp (x ∷ xs)) (x ∷ xs))
 unfolding callsIn
 calls-read k d x xs e = rw (callsIn, e)
 
-calls-unread : (k : ℕ) (d : Device) (x : ℕ) (xs : List ℕ) → isReadable (x ∷ xs) ≡ false → callsIn (suc k) d (x ∷ xs) ≡ []
+pub calls-unread : (k : ℕ) (d : Device) (x : ℕ) (xs : List ℕ) → isReadable (x ∷ xs) ≡ false → callsIn (suc k) d (x ∷ xs) ≡ []
 unfolding callsIn
 calls-unread k d x xs e = rw (callsIn, e)
 

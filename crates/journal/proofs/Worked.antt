@@ -1,13 +1,18 @@
--- The worked example of 01 (the agreed scope; docs/RULES.md has its rules), from the definitions: its journal gives its log.
-use mathlib.Core.Path.{_≡_, refl}
-use mathlib.Core.List.{[], _∷_}
-use lib.ListN.{replicate}
+-- The worked example of 01 (the agreed scope; docs/RULES.md has its rules), from the definitions: its journal gives its log. And two journals
+-- that are alike but for what the host wrote, or are not.
+use Prim.Native.Nat.{ℕ}
+use native.Mathlib.Omega.{arith}
+use mathlib.Core.Path.{_≡_, refl, ap}
+use mathlib.Core.Logic.{_≢_}
+use mathlib.Core.List.{List, [], _∷_, map}
+use lib.ListN.{getD, replicate}
 use Rattle.journal.specs.Run.{entriesIn, entries, freshDevice, logFrom}
+use Rattle.journal.specs.Readings.{Reading, readingsIn, readings, butHostBytes}
 use Rattle.device.specs.Frame.{stepOf, frameSays, frameLeaves, frameDelivers}
 use Rattle.octets.specs.Lists.{all}
 use Rattle.state.specs.Records.{held, span, addresses, total, place, countFresh, countHeld, keep, lowest, highest, joined}
 use Rattle.state.specs.State.{ascending, commandHolds, holds}
-use Rattle.state.specs.Verdict.{accepted, verdict}
+use Rattle.state.specs.Verdict.{refused, accepted, verdict}
 use Rattle.cache.specs.Begin.{beginSays, beginState, beginStore}
 use Rattle.cache.specs.Fetch.{fetchSays, fetchState, fetchStore, fetchDest}
 use Rattle.cache.specs.End.{endSays, endState, endStore}
@@ -32,3 +37,20 @@ unfolding logFrom entriesIn stepOf frameSays frameLeaves frameDelivers lineOf de
     endSays endState endStore hostSays hostWindow all ascending commandHolds holds total held span addresses place countFresh countHeld keep lowest highest
     joined
 worked = refl
+
+-- the host writes a byte, or a command does, and it is fetched
+host-writes : ℕ → List ℕ
+host-writes byte = 0x60 ∷ 0x00 ∷ 0x40 ∷ 0x00 ∷ 0x20 ∷ byte ∷ 0x28 ∷ 0x00 ∷ 0x40 ∷ 0x00 ∷ 0x20 ∷ []
+
+command-writes : ℕ → List ℕ
+command-writes byte = 0x88 ∷ 0x00 ∷ 0x40 ∷ 0x00 ∷ 0x20 ∷ byte ∷ 0x28 ∷ 0x00 ∷ 0x40 ∷ 0x00 ∷ 0x20 ∷ []
+
+host-bytes-free : map butHostBytes (readings (host-writes 4)) ≡ map butHostBytes (readings (host-writes 40))
+unfolding host-writes readingsIn stepOf readSays fieldsSay fieldsOf dataSize notZero zeroBroken verdict accepted
+host-bytes-free = refl
+
+own-bytes-not : map butHostBytes (readings (command-writes 4)) ≢ map butHostBytes (readings (command-writes 40))
+unfolding command-writes readingsIn stepOf readSays fieldsSay fieldsOf dataSize notZero zeroBroken verdict accepted
+own-bytes-not e =
+    let bytes : _≡_ {A = ℕ} 4 40 = ap (λ (rs : List Reading). getD (getD rs 0 (record { says = refused 0; bytes = [] }) .bytes) 0 0) e in
+    omega arith

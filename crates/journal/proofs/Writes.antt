@@ -115,7 +115,9 @@ module _ (store window : List ℕ) (past : List Event) (d : Device) (S : Sound (
       ∙ ap (λ (v : Value). recall (orElse v (getD (d .window) x 0))) (unknown (memory past c x) (memory-search past c x ∙ first-fetch)) ∙ W x
 
 -- what was called keeps both that the records are sound and that the window has the latest bytes
-sound-left : (past : List Event) (d : Device) (qs : List Request) → Sound (d .machine) (memory past) → Sound (left d qs .machine) (memory (pastFrom past d qs))
+sound-left :
+    (past : List Event) (d : Device) (qs : List Request) → Sound (d .machine) (memory past)
+    → Sound (left d qs .machine) (memory (pastFrom past d qs))
 sound-left past d qs S =
     subst (λ (m : Machine). Sound m (memory (pastFrom past d qs))) (sym (left-machine d qs)) (sound-ran past (d .machine) (made d qs) S)
 

@@ -3,14 +3,17 @@ use Prim.Native.Nat.{ℕ, zero, suc, _+_, _^_, _≤_, _<_}
 use mathlib.Core.Path.{_≡_}
 use mathlib.Core.List.{List, [], _∷_, map}
 use mathlib.Core.Bool.{true, false, cond}
+use mathlib.Core.Logic.{_↔_}
 use lib.ListN.{length, drop}
 use Rattle.cache.specs.Runs.{Call, says, delivers, along, ran}
 use Rattle.history.specs.Journal.{journal, told}
-use Rattle.history.specs.Firsts.{owed}
+use Rattle.history.specs.Firsts.{First, firsts, owed}
 use Rattle.log.specs.Line.{lineOf}
 use Rattle.device.specs.Step.{Device}
 use Rattle.device.specs.Frame.{isReadable, takenUp, letterOf, frameCall, frameSays, frameLeaves, frameDelivers}
-use Rattle.journal.specs.Run.{Entry, entries, journalLeaves, freshDevice}
+use Rattle.journal.specs.Run.{Entry, entries, journalLeaves, freshDevice, logFrom}
+use Rattle.journal.specs.Writes.{made}
+use Rattle.journal.specs.Readings.{readings, butHostBytes, requests}
 
 -- the calls of a journal's readable frames, in their order; each is given the window that the one before it left
 unfoldable pub callsIn : (steps : ℕ) → Device → (input : List ℕ) → List Call
@@ -42,6 +45,36 @@ LogDelivers =
     (store window dest input : List ℕ) →
     let d = freshDevice store window dest in
     map (λ e. e .delivered) (ofCalls (entries d input)) ≡ told owed [] (journal store (calls d input))
+
+-- The calls of a journal are those that its requests make on the device, so that what is claimed of requests holds of journals.
+abbrev pub JournalIsMade : Type 0
+JournalIsMade = (d : Device) (input : List ℕ) → calls d input ≡ made d (requests input)
+
+-- what the log of a journal from the fresh state tells, and the first fetches in the journal
+module _ (store window dest input : List ℕ) where
+  abbrev pub logged : List Entry
+  logged = entries (freshDevice store window dest) input
+
+  abbrev pub firstsIn : List (List First)
+  firstsIn = told firsts [] (journal store (calls (freshDevice store window dest) input))
+
+-- Two journals from the same fresh device that are read alike but for the bytes of host writes. Line by line their logs have the same letters
+-- and the same answers, counts and refusals included. They tell the same bytes, too, exactly if the first fetches agree; and then they are
+-- one log.
+module _ (store window dest one other : List ℕ) where
+  pub record EqualLogs : Type 0 where
+    pub letters : map (λ e. e .letter) (logged store window dest one) ≡ map (λ e. e .letter) (logged store window dest other)
+    pub answers : map (λ e. e .reply) (logged store window dest one) ≡ map (λ e. e .reply) (logged store window dest other)
+    pub exactly :
+        (logged store window dest one ≡ logged store window dest other) ↔ (firstsIn store window dest one ≡ firstsIn store window dest other)
+    pub log :
+        firstsIn store window dest one ≡ firstsIn store window dest other
+        → logFrom 1 (logged store window dest one) ≡ logFrom 1 (logged store window dest other)
+
+abbrev pub LogEqualRuns : Type 0
+LogEqualRuns =
+    (store window dest one other : List ℕ) → map butHostBytes (readings one) ≡ map butHostBytes (readings other)
+    → EqualLogs store window dest one other
 
 -- the longest line of the log: its number of 20 digits, the letter, `ok`, two counts of 4 digits, 4,096 bytes in hexadecimal, and the
 -- newline; every field but the first has a blank before it

@@ -1,3 +1,4 @@
 pub mod Run
-pub mod Claims
 pub mod Writes
+pub mod Readings
+pub mod Claims

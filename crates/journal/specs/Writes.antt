@@ -118,24 +118,26 @@ module _ (store window dest : List ℕ) (before : List Request) (write : Request
   abbrev pub isUndisturbed : ℕ → Bool
   isUndisturbed x = writes x theWrite && all (λ e. not (writes x e)) eventsBetween
 
-  abbrev pub getsWritten : (c a n x : ℕ) → Type 0
-  getsWritten c a n x = byteAt beforeFetch c a n x ≡ byteFor (theWrite .call) x
+  abbrev pub GetsWritten : (c a n x : ℕ) → Type 0
+  GetsWritten c a n x = byteAt beforeFetch c a n x ≡ byteFor (theWrite .call) x
 
   -- the fetch is the command's first of the address since its begin
   abbrev pub SeesWritten : Type 0
   SeesWritten =
       (c a n x : ℕ) → isUndisturbed x ≡ true → isFetched beforeFetch c a n x ≡ true
-      → fetchedSince (backwards (theWrite ∷ pastOfWrite) eventsBetween) c x ≡ false → getsWritten c a n x
+      → fetchedSince (backwards (theWrite ∷ pastOfWrite) eventsBetween) c x ≡ false → GetsWritten c a n x
 
   -- the command began after the write, whichever command wrote, and has not fetched the address since
   abbrev pub SeesEarlier : Type 0
   SeesEarlier =
       (c a n x : ℕ) → isUndisturbed x ≡ true → isFetched beforeFetch c a n x ≡ true
-      → all (λ e. not (renews c x (deed e))) eventsBetween ≡ false → fetchedSince (backwards [] eventsBetween) c x ≡ false → getsWritten c a n x
+      → all (λ e. not (renews c x (deed e))) eventsBetween ≡ false → fetchedSince (backwards [] eventsBetween) c x ≡ false
+      → GetsWritten c a n x
 
 -- Midas' second property: the first fetch of an address after a write there gets the written byte.
 abbrev pub WrittenSeen : Type 0
-WrittenSeen = (store window dest : List ℕ) (before : List Request) (write : Request) (between : List Request) → SeesWritten store window dest before write between
+WrittenSeen =
+    (store window dest : List ℕ) (before : List Request) (write : Request) (between : List Request) → SeesWritten store window dest before write between
 
 -- So a later command sees what an earlier one wrote.
 abbrev pub LaterCommandSees : Type 0
