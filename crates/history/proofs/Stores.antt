@@ -264,6 +264,7 @@ module _ (store : List ℕ) (m : Machine) (past : List Event) (T : Told store m 
         ∙ runs-same (held rs) (λ x. isKnown (memory past c x)) 0 65536 (λ x h. held-known m (memory past) S c o x)
 
     held-values : heldOwed past c ≡ map (λ x. recall (memory past c x)) (addresses rs)
+    unfolding heldOwed
     held-values = known-runs (memory past c) 0 65536 ∙ ap (λ (l : List Record). map (λ x. recall (memory past c x)) (addresses l)) (sym held-runs)
 
     length-held : total rs ≡ length (heldOwed past c)

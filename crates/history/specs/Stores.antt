@@ -34,7 +34,7 @@ abbrev pub ifAny : Value → List ℕ
 ifAny none = []
 ifAny (first v) = v ∷ []
 
-abbrev pub heldOwed : List Event → (c : ℕ) → List ℕ
+unfoldable pub heldOwed : List Event → (c : ℕ) → List ℕ
 heldOwed past c = flatMap (λ x. ifAny (memory past c x)) (span 0 windowLimit)
 
 -- these bytes at the front of a part, and zeros behind them
