@@ -17,7 +17,8 @@ use Rattle.cache.specs.Runs.{Call, begin, fetch, end, hostWrite, ownWrite, show
 use Rattle.history.specs.Journal.{Event, event, backwards, deedOf}
 use Rattle.history.specs.Firsts.{memory}
 use Rattle.history.specs.Counts.{freshSince}
-use Rattle.history.specs.Answers.{opens, openSince, OpenTold}
+use Rattle.history.specs.Stores.{Phase, running, finished, phaseBy, phase}
+use Rattle.history.specs.Answers.{isRunning, openSince, OpenTold}
 use Rattle.history.proofs.Effects.{refused-same, grown, begin-after, end-after, fetch-after, begin-fits, end-fits, length-after}
 use Rattle.history.proofs.Invariant.{Whole}
 use Rattle.history.proofs.Sound.{Sound, sound-start, sound-after}
@@ -34,28 +35,36 @@ opened-with s c next d h = go (eqb d c) refl
         ap (λ (k : ℕ). isOpen (withCommand s c next) k) (eqb-true d c e) ∙ ap (λ (p : CommandState). p .opened) (command-same s c next h)
     go false e = ap (λ (p : CommandState). p .opened) (command-other s c next d (eqb-false d c e))
 
-opened-after : (m : Machine) (p : Call) (b : Bool) → accepted (says m p) ≡ b → Whole (m .state) → (d : ℕ)
-    → isOpen (after m p .state) d ≡ opens (deedOf b p) d (isOpen (m .state) d)
-unfolding opens
-opened-after m p false e W d = ap (λ (k : Machine). isOpen (k .state) d) (refused-same m p e)
-opened-after m (begin c) true e W d =
-    ap (λ (k : Machine). isOpen (k .state) d) (begin-after m c e)
-    ∙ opened-with (m .state) c (open-with []) d (omega (arith, eight (m .state) (W .shape), begin-fits m c e .command))
-opened-after m (fetch c a n dest window) true e W d =
-    let F = fetched (m .state) (length (m .store)) (length window) (length dest) c a n e in
-    ap (λ (k : Machine). isOpen (k .state) d) (fetch-after m c a n dest window e)
-    ∙ opened-with (m .state) c (open-with (grown m c a n)) d (omega (arith, eight (m .state) (W .shape), F .command))
-    ∙ go (F .opened) (eqb d c) refl
-  where
-    go : isOpen (m .state) c ≡ true → (b : Bool) → eqb d c ≡ b → cond b true (isOpen (m .state) d) ≡ isOpen (m .state) d
-    go o true q = sym (ap (isOpen (m .state)) (eqb-true d c q) ∙ o)
-    go o false q = refl
-opened-after m (end c) true e W d =
-    ap (λ (k : Machine). isOpen (k .state) d) (end-after m c e)
-    ∙ opened-with (m .state) c closed d (omega (arith, eight (m .state) (W .shape), end-fits m c e .command))
-opened-after m (hostWrite a bytes window) true e W d = refl
-opened-after m (ownWrite c a bytes window) true e W d = refl
-opened-after m (show c i) true e W d = refl
+-- a phase that a search finds, or else the one from further back
+found : (b : Bool) (here before : Phase) (o : Bool) → o ≡ isRunning before → cond b (isRunning here) o ≡ isRunning (cond b here before)
+found true here before o is = refl
+found false here before o is = is
+
+module _ (m : Machine) (d : ℕ) (before : Phase) (is : isOpen (m .state) d ≡ isRunning before) (W : Whole (m .state)) where
+  abbrev opened-in : Machine → Bool
+  opened-in k = isOpen (k .state) d
+
+  -- where the command takes the place of one in the state
+  placed : (c : ℕ) (next : CommandState) → c < commandLimit → isOpen (withCommand (m .state) c next) d ≡ cond (eqb d c) (next .opened) (isOpen (m .state) d)
+  placed c next h = opened-with (m .state) c next d (omega (arith, eight (m .state) (W .shape)))
+
+  opened-after : (p : Call) (b : Bool) → accepted (says m p) ≡ b → isOpen (after m p .state) d ≡ isRunning (phaseBy (deedOf b p) d before)
+  unfolding phaseBy
+  opened-after p false e = ap opened-in (refused-same m p e) ∙ is
+  opened-after (begin c) true e =
+      ap opened-in (begin-after m c e) ∙ placed c (open-with []) (begin-fits m c e .command) ∙ found (eqb d c) running before (isOpen (m .state) d) is
+  opened-after (fetch c a n dest window) true e =
+      let F = fetched (m .state) (length (m .store)) (length window) (length dest) c a n e in
+      ap opened-in (fetch-after m c a n dest window e) ∙ placed c (open-with (grown m c a n)) (F .command) ∙ go (F .opened) (eqb d c) refl ∙ is
+    where
+      go : isOpen (m .state) c ≡ true → (b : Bool) → eqb d c ≡ b → cond b true (isOpen (m .state) d) ≡ isOpen (m .state) d
+      go o true q = sym (ap (isOpen (m .state)) (eqb-true d c q) ∙ o)
+      go o false q = refl
+  opened-after (end c) true e =
+      ap opened-in (end-after m c e) ∙ placed c closed (end-fits m c e .command) ∙ found (eqb d c) finished before (isOpen (m .state) d) is
+  opened-after (hostWrite a bytes window) true e = is
+  opened-after (ownWrite c a bytes window) true e = is
+  opened-after (show c i) true e = is
 
 -- What holds between a machine and the events that led to it
 pub record Tied (storeLen : ℕ) (m : Machine) (past : List Event) : Type 0 where
@@ -65,7 +74,7 @@ pub record Tied (storeLen : ℕ) (m : Machine) (past : List Event) : Type 0 wher
   pub size : length (m .store) ≡ storeLen
 
 pub tied-start : (store : List ℕ) → Tied (length store) (start store) []
-unfolding openSince
+unfolding phase
 tied-start store = record {
   sound = sound-start store;
   summed = summed-start store;
@@ -74,13 +83,13 @@ tied-start store = record {
 }
 
 pub tied-after : (storeLen : ℕ) (m : Machine) (past : List Event) (p : Call) → Tied storeLen m past → Tied storeLen (after m p) (event m p ∷ past)
-unfolding memory freshSince openSince
+unfolding memory freshSince phase
 tied-after storeLen m past p T =
     let ok = accepted (says m p) in
     record {
       sound = sound-after m (memory past) p ok refl (T .sound);
       summed = summed-after m (memory past) (freshSince past) p ok refl (T .sound) (T .summed);
-      opened = λ d. opened-after m p ok refl (T .sound .state) d ∙ ap (opens (deedOf ok p) d) (T .opened d);
+      opened = λ d. opened-after m d (phase past d) (T .opened d) (T .sound .state) p ok refl;
       size = length-after m p ∙ T .size;
     }
 

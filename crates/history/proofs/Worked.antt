@@ -19,7 +19,8 @@ use Rattle.cache.specs.Runs.{Call, begin, fetch, end, hostWrite, ownWrite, show
 use Rattle.history.specs.Journal.{Event, journal, told, backwards, deed}
 use Rattle.history.specs.Firsts.{remember, memory, finds, fetchedSince, First, firstsAmong, firstsBy, firsts, owedBy, owed}
 use Rattle.history.specs.Counts.{count, countsBy, countsOwed, add, freshSince, sumOwed}
-use Rattle.history.specs.Answers.{opens, openSince, replayCount, firstCount, answerOwed, eventsOf, spare}
+use Rattle.history.specs.Stores.{phaseBy, phase}
+use Rattle.history.specs.Answers.{openSince, replayCount, firstCount, answerOwed, eventsOf, spare}
 use Rattle.history.specs.Claims.{renews, mayChange, common}
 use Rattle.history.proofs.Tied.{open-told}
 use Rattle.history.proofs.Meet.{counts-meet}
@@ -88,7 +89,7 @@ abbrev past : List Event
 past = backwards [] run
 
 open-now : map (openSince past) (1 ∷ 2 ∷ 3 ∷ []) ≡ false ∷ true ∷ false ∷ []
-unfolding run backwards opens openSince accepted
+unfolding run backwards phaseBy phase accepted
 open-now = refl
 
 owed-now : map (answerOwed 32768 past) (begin 1 ∷ begin 2 ∷ begin 8 ∷ end 1 ∷ ownWrite 2 0 (7 ∷ []) (1 ∷ 2 ∷ []) ∷ show 1 0 ∷ [])

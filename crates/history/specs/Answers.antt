@@ -4,9 +4,9 @@
 use Prim.Native.Nat.{ℕ, _+_, _-_, _<_}
 use mathlib.Core.Path.{_≡_}
 use mathlib.Core.List.{List, [], _∷_, _++_}
-use mathlib.Core.Bool.{Bool, true, false, cond, not, _||_}
+use mathlib.Core.Bool.{Bool, true, false, not, _||_}
 use mathlib.Core.Logic.{_↔_}
-use lib.Dec.{ltb, leb, eqb}
+use lib.Dec.{ltb, leb}
 use lib.ListN.{length, getD}
 use Rattle.state.specs.declared.Record.{Record}
 use Rattle.state.specs.declared.refusal.Refusal.the-variants.{CommandNotOpen, CommandAlreadyOpen, TooManyBytes, TooManyRecords, NoSuchRecord}
@@ -18,20 +18,19 @@ use Rattle.state.specs.State.{noRecord, recordsOf, isOpen}
 use Rattle.state.specs.Verdict.{Reply, refused, replied, Check, _⇒_, verdict, applying}
 use Rattle.state.specs.Checks.{lengthTooLong, commandTooHigh, windowTooLong, storeWrongSize, outsideWindow, bufferTooShort}
 use Rattle.cache.specs.Runs.{Call, begin, fetch, end, hostWrite, ownWrite, show, start, along, ran, says}
-use Rattle.history.specs.Journal.{Event, journal, told, backwards, Deed, began, fetched, ended, other, deed}
+use Rattle.history.specs.Journal.{Event, journal, told, backwards}
 use Rattle.history.specs.Firsts.{fetchedSince}
+use Rattle.history.specs.Stores.{Phase, unbegun, running, finished, phase}
 use Rattle.history.specs.Counts.{count, freshSince}
 
--- A search back through the events: was the last accepted begin or end of the command a begin?
-unfoldable pub opens : Deed → (c : ℕ) → Bool → Bool
-opens (began d) c further = cond (eqb c d) true further
-opens (fetched d a n window) c further = further
-opens (ended d) c further = cond (eqb c d) false further
-opens other c further = further
+-- Was the last accepted begin or end of the command a begin?
+abbrev pub isRunning : Phase → Bool
+isRunning unbegun = false
+isRunning running = true
+isRunning finished = false
 
-unfoldable pub openSince : List Event → ℕ → Bool
-openSince [] c = false
-openSince (e ∷ past) c = opens (deed e) c (openSince past c)
+abbrev pub openSince : List Event → ℕ → Bool
+openSince past c = isRunning (phase past c)
 
 module _ (past : List Event) (c : ℕ) where
   -- the addresses that the command has fetched since its begin: how many of all addresses, and how many of a span
