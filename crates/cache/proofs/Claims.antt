@@ -12,12 +12,12 @@ use Rattle.state.specs.declared.Record.{Record}
 use Rattle.state.specs.Limits.{commandLimit, heldLimit}
 use Rattle.state.specs.Records.{span}
 use Rattle.state.specs.State.{State, recordsOf, noRecord, isOpen, holds}
-use Rattle.state.specs.Verdict.{Reply, refused, replied, accepted, verdict}
+use Rattle.state.specs.Verdict.{Reply, refused, verdict}
 use Rattle.store.specs.Store.{partStart, zeroed}
-use Rattle.cache.specs.Begin.{beginSays, beginStore}
-use Rattle.cache.specs.End.{endSays, endStore}
+use Rattle.cache.specs.Begin.{beginStore}
+use Rattle.cache.specs.End.{endStore}
 use Rattle.cache.specs.Show.{pastLast, showSays}
-use Rattle.cache.specs.Claims.{Shown, ShowsAll, Zeroed, PartsZeroed}
+use Rattle.cache.specs.Claims.{recordReply, ShowsAll, PartsZeroed}
 use Rattle.cache.proofs.Accepted.{Ready, begun, ended}
 use Rattle.cache.proofs.Tests.{never-true, never-false}
 
@@ -32,7 +32,7 @@ each-record f g k (r ∷ rs) same =
     (each-record f g (suc k) rs (λ i h. ap f (omega arith) ∙ same (suc i) (omega arith)))
 
 module _ (s : State) (c : ℕ) (whole : holds s ≡ true) (low : c < commandLimit) (opened : isOpen s c ≡ true) where
-  record-given : (i : ℕ) → i < length (recordsOf s c) → showSays s c i ≡ replied (getD (recordsOf s c) i noRecord .start ∷ getD (recordsOf s c) i noRecord .len ∷ [])
+  record-given : (i : ℕ) → i < length (recordsOf s c) → showSays s c i ≡ recordReply (getD (recordsOf s c) i noRecord)
   unfolding showSays verdict
   record-given i h =
       let there = never-true (pastLast s c i .applies) (λ e. omega (arith, leb-true)) in
@@ -46,7 +46,7 @@ module _ (s : State) (c : ℕ) (whole : holds s ≡ true) (low : c < commandLimi
 
 pub shows-all : ShowsAll
 shows-all s c whole low opened = record {
-  records = each-record (showSays s c) (λ r. replied (r .start ∷ r .len ∷ [])) 0 (recordsOf s c) (λ i h. ap (showSays s c) (omega arith) ∙ record-given s c whole low opened i h);
+  records = each-record (showSays s c) recordReply 0 (recordsOf s c) (λ i h. ap (showSays s c) (omega arith) ∙ record-given s c whole low opened i h);
   behind = none-behind s c whole low opened;
 }
 
@@ -54,7 +54,8 @@ shows-all s c whole low opened = record {
 written : (buffer bytes : List ℕ) (at n : ℕ) → at ≤ length buffer → length bytes ≡ n → part (overwrite buffer at bytes) at n ≡ bytes
 written buffer bytes at n inside size =
     let rest = drop (at + length bytes) buffer in
-    rw (append-assoc (take at buffer) bytes rest, drop-at (take at buffer) (bytes ++ rest) at (length-take-le at buffer inside)) (take-at bytes rest n size)
+    let front = length-take-le at buffer inside in
+    rw (append-assoc (take at buffer) bytes rest, drop-at (take at buffer) (bytes ++ rest) at front) (take-at bytes rest n size)
 
 pub parts-zeroed : PartsZeroed
 unfolding beginStore endStore
@@ -64,4 +65,6 @@ parts-zeroed s store c = record {
 }
   where
     zeros : Ready s (length store) c → part (zeroed store c) (partStart c) heldLimit ≡ replicate heldLimit 0
-    zeros r = written store (replicate heldLimit 0) (partStart c) heldLimit (omega (arith, r .command, r .size)) (length-replicate {A = ℕ} heldLimit 0)
+    zeros r =
+        let size = length-replicate {A = ℕ} heldLimit 0 in
+        written store (replicate heldLimit 0) (partStart c) heldLimit (omega (arith, r .command, r .size)) size

@@ -6,19 +6,23 @@ use mathlib.Core.List.{List, [], _∷_, map}
 use mathlib.Core.Bool.{true}
 use lib.ListN.{length, replicate}
 use Rattle.octets.specs.Lists.{part}
+use Rattle.state.specs.declared.Record.{Record}
 use Rattle.state.specs.Limits.{commandLimit, heldLimit}
 use Rattle.state.specs.Records.{span}
 use Rattle.state.specs.State.{State, recordsOf, isOpen, holds}
-use Rattle.state.specs.Verdict.{refused, replied, accepted}
+use Rattle.state.specs.Verdict.{Reply, refused, replied, accepted}
 use Rattle.store.specs.Store.{partStart}
 use Rattle.cache.specs.Begin.{beginSays, beginStore}
 use Rattle.cache.specs.End.{endSays, endStore}
 use Rattle.cache.specs.Show.{showSays}
 
--- Show at 0 and on, as often as there are records, gives start and length of each in their order, and of none other; from then on it
--- gives 25.
+-- a record as show replies it: its start and length
+abbrev pub recordReply : Record → Reply
+recordReply r = replied (r .start ∷ r .len ∷ [])
+
+-- Asked for record 0, 1 and so on, as often as there are records, show gives each of them in their order; from then on it gives 25.
 pub record Shown (s : State) (c : ℕ) : Type 0 where
-  pub records : map (showSays s c) (span 0 (length (recordsOf s c))) ≡ map (λ r. replied (r .start ∷ r .len ∷ [])) (recordsOf s c)
+  pub records : map (showSays s c) (span 0 (length (recordsOf s c))) ≡ map recordReply (recordsOf s c)
   pub behind : (i : ℕ) → length (recordsOf s c) ≤ i → showSays s c i ≡ refused 25
 
 -- So it is of every open command of every state that holds together.

@@ -79,7 +79,8 @@ pub record SpanRoom (words store window dest : List ℕ) (c a n : ℕ) (m : Meet
   pub few : m .first + 1 + (length (recordsIn (commandIn (lent words c))) - m .last) ≤ recordLimit
   pub fresh : new ≤ n
   pub done :
-      (r : FetchAnswer) (ws store′ dest′ : List ℕ) → fetchReply r ≡ replied (new ∷ (n - new) ∷ []) → length ws ≡ commandWords → commandIn ws ≡ spliced (commandIn (lent words c)) m → store′ ≡ heldOf (commandIn (lent words c)) c store window m
+      (r : FetchAnswer) (ws store′ dest′ : List ℕ) → fetchReply r ≡ replied (new ∷ (n - new) ∷ []) → length ws ≡ commandWords
+      → commandIn ws ≡ spliced (commandIn (lent words c)) m → store′ ≡ heldOf (commandIn (lent words c)) c store window m
       → dest′ ≡ overwrite dest 0 (part store′ (partStart c + place) n)
       → Fetches words store window dest c a n r (returned words c ws) store′ dest′
 
@@ -146,7 +147,8 @@ module _ (words store window dest : List ℕ) (c a n : ℕ) (whole : length word
     joined-few = rw (P .meets) (P .few)
 
     -- the span is held and delivered, and the union is in the command's words
-    module _ (r : FetchAnswer) (ws store′ dest′ : List ℕ) (told : fetchReply r ≡ replied (fresh ∷ (n - fresh) ∷ [])) (size : length ws ≡ commandWords) (command : commandIn ws ≡ spliced (commandIn (lent words c)) m)
+    module _ (r : FetchAnswer) (ws store′ dest′ : List ℕ) (told : fetchReply r ≡ replied (fresh ∷ (n - fresh) ∷ []))
+        (size : length ws ≡ commandWords) (command : commandIn ws ≡ spliced (commandIn (lent words c)) m)
         (bytes : store′ ≡ heldOf (commandIn (lent words c)) c store window m) (given : dest′ ≡ overwrite dest 0 (part store′ (partStart c + place) n)) where
       joined-command : commandIn ws ≡ j .command
       unfolding join

@@ -125,8 +125,8 @@ returns-3 c =
     let put = c .before .before in
     let delivered = put .before .before in
     let held = held-at delivered in
-    R (planned-at held) .done _ (put .splice .last .0) (held .hold .last .0) _ refl (put .splice .ensures .1) (put .splice .ensures .0) (held .hold .ensures)
-    (delivered .before .before .deliver .ensures)
+    R (planned-at held) .done _ (put .splice .last .0) (held .hold .last .0) _ refl (put .splice .ensures .1) (put .splice .ensures .0)
+    (held .hold .ensures) (delivered .before .before .deliver .ensures)
 
 pub fetch-span-spec : {M : Type 1} → statement M
 fetch-span-spec =

@@ -77,7 +77,8 @@ returns-5 c =
     let found = c .entry .ensures ∙ sym (getD-take (p .count) (p .records) i noRecord below ∙ entry-at words i (omega arith)) ∙ ap (λ (q : CommandState). getD (recordsIn q) i noRecord) (own opened) in
     let many = used ∙ ap (λ (q : CommandState). length (recordsIn q)) (own opened) in
     let some-left = never-true (pastLast (stateOf (now (a .state))) (a .command) i .applies) (λ e. omega (arith, leb-true)) in
-    rw (command-low (whole .before .before), state-whole whole, is-open opened, some-left) (ap (λ (r : Record). replied (r .start ∷ r .len ∷ [])) found)
+    let reply = ap (λ (r : Record). replied (r .start ∷ r .len ∷ [])) found in
+    rw (command-low (whole .before .before), state-whole whole, is-open opened, some-left) reply
 
 pub look-spec : {M : Type 1} → statement M
 look-spec =
