@@ -1,4 +1,4 @@
--- A span that fills the gap between two records makes one of them.
+-- A span that fills the gap between two records makes one record of the two.
 use Prim.Native.Nat.{zero, suc, _+_, _-_}
 use native.Mathlib.Omega.{arith}
 use mathlib.Core.Path.{_≡_, ap, _∙_}

@@ -29,13 +29,14 @@ SharesByte =
 abbrev pub MeetsWords : Type 0
 MeetsWords = (a n : ℕ) (r : Record) → meets a n r ≡ (shares a n r || touches a n r)
 
--- F-1: of records that keep to the rules each ends before the next starts, and does not touch it: the address behind it is in neither.
+-- F-1: of records that keep to the rules each ends before the next one starts and does not touch it, so that the address behind it is in
+-- neither.
 abbrev pub RecordsApart : Type 0
 RecordsApart =
     (lo : ℕ) (before : List Record) (one next : Record) (behind : List Record)
     → ascending lo (before ++ one ∷ next ∷ behind) ≡ true → past one < next .start
 
--- So a state in which a command has two records that touch does not hold together.
+-- F-1: a state in which a command has two records that touch does not hold together.
 abbrev pub TouchingBroken : Type 0
 TouchingBroken =
     (s : State) (c : ℕ) (before : List Record) (one next : Record) (behind : List Record)
@@ -61,7 +62,7 @@ UnionCovers =
     (rs : List Record) (a n x : ℕ)
     → inSpan (union a n (keep (meets a n) rs) .start) (union a n (keep (meets a n) rs) .len) x ≡ (inSpan a n x || held (keep (meets a n) rs) x)
 
--- So an address is held after a span is joined exactly if it was held, or lies in the span.
+-- An address is held after a span is joined exactly if it was held before, or lies in the span.
 abbrev pub HeldJoined : Type 0
 HeldJoined = (rs : List Record) (a n x : ℕ) → held (joined rs a n) x ≡ (held rs x || inSpan a n x)
 
@@ -69,7 +70,7 @@ HeldJoined = (rs : List Record) (a n x : ℕ) → held (joined rs a n) x ≡ (he
 abbrev pub AscendingJoined : Type 0
 AscendingJoined = (rs : List Record) (a n : ℕ) → ascending 0 rs ≡ true → a + n ≤ windowLimit → ascending 0 (joined rs a n) ≡ true
 
--- And they hold as many bytes more as the span has fresh ones.
+-- Joined records hold as many bytes more as the span has fresh ones.
 abbrev pub TotalJoined : Type 0
 TotalJoined = (rs : List Record) (a n : ℕ) → ascending 0 rs ≡ true → total (joined rs a n) ≡ total rs + fresh rs a n
 
@@ -104,8 +105,8 @@ pub record Finds (rs : List Record) (a n : ℕ) (m : Meeting) : Type 0 where
 abbrev pub SearchFinds : Type 0
 SearchFinds = (rs : List Record) (a n : ℕ) → ascending 0 rs ≡ true → Finds rs a n (meeting rs a (a + n))
 
--- And what it finds is what `joined` is made of: the union takes the place of the records that are met, and as many of the span's bytes are
--- fresh as the union has more than they held.
+-- What the search finds is what `joined` is made of: the union takes the place of the records that are met, and as many of the span's bytes
+-- are fresh as the union has more than these held.
 abbrev pub SearchJoins : Type 0
 SearchJoins =
     (rs : List Record) (a n : ℕ) → ascending 0 rs ≡ true → 0 < n
@@ -118,7 +119,7 @@ HeldPlace =
     (rs : List Record) (x d : ℕ) → ascending 0 rs ≡ true → held rs x ≡ true
     → (place rs x < total rs) × (getD (addresses rs) (place rs x) d ≡ x)
 
--- That place is what the records before its own hold, and how far it lies from where its own starts.
+-- The place of an address in a record is what the records before that one hold, and how far the address lies from the record's start.
 abbrev pub PlaceMiddle : Type 0
 PlaceMiddle =
     (lo : ℕ) (before : List Record) (own : Record) (behind : List Record) (x : ℕ)

@@ -15,11 +15,11 @@ pub record Parted (rs : List Record) (q x : ℕ) : Type 0 where
   pub before : highest 0 (take q rs) ≤ x
   pub behind : ascending x (drop q rs) ≡ true
 
--- Its place is what the records before it hold.
+-- The place of an address that lies across no record is what the records before it hold.
 abbrev pub PartedPlace : Type 0
 PartedPlace = (rs : List Record) (q x : ℕ) → Parted rs q x → place rs x ≡ total (take q rs)
 
--- Between two such addresses that have the same records before them nothing is held.
+-- Between two addresses that lie across no record and have the same records before them, nothing is held.
 abbrev pub PartedFree : Type 0
 PartedFree = (rs : List Record) (q lo hi : ℕ) → Parted rs q lo → Parted rs q hi → (x : ℕ) → lo ≤ x → x < hi → held rs x ≡ false
 

@@ -108,7 +108,7 @@ pub record Joined (p : CommandState) (a n : ℕ) (r : Join) : Type 0 where
 abbrev pub JoinJudged : Type 0
 JoinJudged = (p : CommandState) (a n : ℕ) → 0 < n → commandHolds p ≡ true → Judged p a n (join p a (a + n))
 
--- And where there is room, what join gives is the joining rule.
+-- Where there is room for a span of a byte or more, what join gives is the joining rule, in a command with all its entries.
 abbrev pub JoinJoined : Type 0
 JoinJoined = (p : CommandState) (a n : ℕ) → 0 < n → length (p .records) ≡ recordLimit → Room p a n → Joined p a n (join p a (a + n))
 
@@ -127,7 +127,8 @@ PackedFront =
     → ascending 0 rs ≡ true → k + total rs ≤ length l → ((x : ℕ) → held rs x ≡ true → f x ≡ getD l (k + place rs x) 0)
     → (i : ℕ) → map f (addresses (take i rs)) ≡ take (total (take i rs)) (drop k l)
 
--- And right behind these it has the bytes of the others.
+-- Where a buffer has from k on the byte of each held address at its place, the bytes of the records behind the first i stand right behind
+-- theirs.
 abbrev pub PackedBackFrom : Type 0
 PackedBackFrom =
     (f : ℕ → ℕ) (l : List ℕ) (k : ℕ) (rs : List Record)
