@@ -17,13 +17,14 @@ use Rattle.state.specs.Verdict.{Reply, refused, replied, accepted, verdict}
 use Rattle.state.proofs.Places.{map-read}
 use Rattle.cache.specs.Begin.{beginSays, beginState}
 use Rattle.cache.specs.Fetch.{fetchSays, fetchState}
-use Rattle.cache.specs.Runs.{Call, begin, fetch, Machine, start, says, after, windowAfter, delivers}
+use Rattle.cache.specs.Runs.{Call, begin, fetch, Machine, start, says, after, delivers}
 use Rattle.history.specs.Journal.{fetched, deedOf}
 use Rattle.history.specs.Firsts.{none, first, Memory, remember, memory, recall, orElse, owedBy}
 use Rattle.history.proofs.Effects.{refused-same, length-after}
 use Rattle.history.proofs.Sound.{Sound, sound-start, sound-after}
 use Rattle.history.proofs.Delivery.{delivers-owed}
-use Rattle.situations.specs.Steps.{sameNumbers, sameAnswer, sameRecords, asExpected, Expected, unsaid, is, Made, Step, calls, passes}
+use Rattle.situations.specs.Steps.{fetchAnswers, fetchLeaves, answers, gives, leaves, leavesWindow, sameNumbers, sameAnswer, sameRecords, asExpected}
+use Rattle.situations.specs.Steps.{Expected, unsaid, is, Made, Step, calls, passes}
 use Rattle.situations.specs.Situations.{bytesOf, window, dest, store, opens, fetches, turnedAway, E}
 
 -- a step passes by equations
@@ -38,14 +39,14 @@ same-answer (refused n) = eq-eqb n n refl
 same-answer (replied ns) = same-numbers ns
 
 step :
-    (m : Machine) (t : Made) (ts : List Step) → says m (t .call) ≡ t .answer → delivers m (t .call) ≡ t .bytes
-    → asExpected sameRecords (t .records) (recordsOf (after m (t .call) .state) 0) ≡ true → t .window ≡ unsaid → passes (after m (t .call)) ts ≡ true
+    (m : Machine) (t : Made) (ts : List Step) → answers m (t .call) ≡ t .answer → gives m (t .call) ≡ t .bytes
+    → asExpected sameRecords (t .records) (recordsOf (leaves m (t .call) .state) 0) ≡ true → t .window ≡ unsaid → passes (leaves m (t .call)) ts ≡ true
     → passes m (calls t ∷ ts) ≡ true
 unfolding passes asExpected
 step m t ts answer bytes records silent rest =
-    let says-it : sameAnswer (t .answer) (says m (t .call)) ≡ true = rw answer (same-answer (t .answer)) in
-    let gives-it : sameNumbers (t .bytes) (delivers m (t .call)) ≡ true = rw bytes (same-numbers (t .bytes)) in
-    let leaves-it : asExpected sameNumbers (t .window) (windowAfter m (t .call)) ≡ true = rw silent in
+    let says-it : sameAnswer (t .answer) (answers m (t .call)) ≡ true = rw answer (same-answer (t .answer)) in
+    let gives-it : sameNumbers (t .bytes) (gives m (t .call)) ≡ true = rw bytes (same-numbers (t .bytes)) in
+    let leaves-it : asExpected sameNumbers (t .window) (leavesWindow m (t .call)) ≡ true = rw silent in
     both (both (both (both says-it gives-it) records) leaves-it) rest
 
 -- the call that fills the command, and the one that finds it full
@@ -64,7 +65,7 @@ full = withCommand freshState 0 (open-with (record { start = 0; len = 4096 } ∷
 
 -- what is said depends on lengths alone
 abbrev answer : State → (a n : ℕ) → Reply
-answer s a n = fetchSays s 32768 (length window) (length dest) 0 a n
+answer s a n = fetchAnswers s 32768 (length window) (length dest) 0 a n
 
 fill-answer : answer empty 0 4096 ≡ replied (4096 ∷ 0 ∷ [])
 unfolding window bytesOf dest fetchSays accepted verdict all ascending commandHolds holds total held span countFresh keep lowest highest joined
@@ -78,20 +79,20 @@ past-answer : answer full 4096 1 ≡ refused 23
 unfolding window bytesOf dest fetchSays accepted verdict all ascending commandHolds holds total held span countFresh keep lowest highest joined
 past-answer = refl
 
-fill-next : fetchState empty 32768 (length window) (length dest) 0 0 4096 ≡ full
+fill-next : fetchLeaves empty 32768 (length window) (length dest) 0 0 4096 ≡ full
 unfolding window bytesOf dest fetchState fetchSays accepted verdict all ascending commandHolds holds total held span countFresh keep lowest highest joined
 fill-next = refl
 
-again-next : fetchState full 32768 (length window) (length dest) 0 0 4096 ≡ full
+again-next : fetchLeaves full 32768 (length window) (length dest) 0 0 4096 ≡ full
 unfolding window bytesOf dest fetchState fetchSays accepted verdict all ascending commandHolds holds total held span countFresh keep lowest highest joined
 again-next = refl
 
 module _ (m : Machine) (s : State) (is : m .state ≡ s) (size : length (m .store) ≡ 32768) where
-  says-answer : (a n : ℕ) → says m (fetch 0 a n dest window) ≡ answer s a n
-  says-answer a n = ap₂ (λ (t : State) (k : ℕ). fetchSays t k (length window) (length dest) 0 a n) is size
+  says-answer : (a n : ℕ) → answers m (fetch 0 a n dest window) ≡ answer s a n
+  says-answer a n = ap₂ (λ (t : State) (k : ℕ). fetchAnswers t k (length window) (length dest) 0 a n) is size
 
-  next-state : after m fill .state ≡ fetchState s 32768 (length window) (length dest) 0 0 4096
-  next-state = ap₂ (λ (t : State) (k : ℕ). fetchState t k (length window) (length dest) 0 0 4096) is size
+  next-state : leaves m fill .state ≡ fetchLeaves s 32768 (length window) (length dest) 0 0 4096
+  next-state = ap₂ (λ (t : State) (k : ℕ). fetchLeaves t k (length window) (length dest) 0 0 4096) is size
 
 -- The bytes
 
