@@ -121,10 +121,12 @@ asExpected same (is y) x = same y x
 
 -- does each step give what it must, the machine handed on from one to the next?
 unfoldable pub passes : Machine → List Step → Bool
-unfolding sameNumbers sameAnswer sameRecords asExpected readSays fieldsSay fieldsOf dataSize notZero zeroBroken hostSays hostWindow ownSays ownWindow beginSays beginState beginStore endSays endState endStore fetchSays fetchState fetchStore fetchDest accepted verdict all ascending commandHolds holds total held span countFresh keep lowest highest joined addresses place
+unfolding sameNumbers sameAnswer sameRecords asExpected readSays fieldsSay fieldsOf dataSize notZero zeroBroken hostSays hostWindow ownSays
+    ownWindow beginSays beginState beginStore endSays endState endStore fetchSays fetchState fetchStore fetchDest accepted verdict all ascending
+    commandHolds holds total held span countFresh keep lowest highest joined addresses place
 passes m [] = true
 passes m (reads frame answer ∷ ts) = sameAnswer answer (readAnswers frame) && passes m ts
 passes m (calls t ∷ ts) =
     let next = leaves m (t .call) in
-    sameAnswer (t .answer) (answers m (t .call)) && sameNumbers (t .bytes) (gives m (t .call)) && asExpected sameRecords (t .records) (recordsOf (next .state) 0)
-    && asExpected sameNumbers (t .window) (leavesWindow m (t .call)) && passes next ts
+    sameAnswer (t .answer) (answers m (t .call)) && sameNumbers (t .bytes) (gives m (t .call))
+    && asExpected sameRecords (t .records) (recordsOf (next .state) 0) && asExpected sameNumbers (t .window) (leavesWindow m (t .call)) && passes next ts
