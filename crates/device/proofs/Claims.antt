@@ -1,11 +1,11 @@
 -- A refused frame leaves the device as it was, and every refusal has a number of 01's lists.
 use Prim.Native.Nat.{ℕ}
-use mathlib.Core.Path.{_≡_, refl, ap, sym, _∙_}
+use mathlib.Core.Path.{_≡_, refl}
 use mathlib.Core.List.{List, [], _∷_}
-use mathlib.Core.Bool.{Bool, true, false, cond}
+use mathlib.Core.Bool.{Bool, true, false}
 use Rattle.octets.specs.Lists.{all}
 use Rattle.octets.proofs.Lists.{and-left, and-right}
-use Rattle.state.specs.Verdict.{Reply, refused, replied, accepted, Check, verdict}
+use Rattle.state.specs.Verdict.{refused, replied, accepted, Check, verdict}
 use Rattle.frames.specs.declared.Step.{Step}
 use Rattle.frames.specs.declared.Step.the-variants.{Begin, Fetch, End, HostWrite, OwnWrite}
 use Rattle.frames.specs.Read.{fieldsSay, readSays, dataOf}

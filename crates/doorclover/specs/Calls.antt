@@ -13,7 +13,7 @@ use Rattle.cache.specs.End.{endSays, endState, endStore}
 use Rattle.cache.specs.HostWrite.{hostSays, hostWindow}
 use Rattle.cache.specs.OwnWrite.{ownSays, ownWindow}
 use Rattle.cache.specs.Show.{showSays}
-use Rattle.cache.specs.Runs.{Call, begin, fetch, end, hostWrite, ownWrite, show, Machine, says, after, destAfter, windowAfter}
+use Rattle.cache.specs.Runs.{begin, fetch, end, hostWrite, ownWrite, show, Machine, says, after, destAfter, windowAfter}
 use Rattle.history.specs.Claims.{given}
 use Rattle.replies.specs.declared.calls.Begun.{Begun}
 use Rattle.replies.specs.declared.calls.Ended.{Ended}

@@ -1,11 +1,11 @@
 -- Midas' second property (docs/RULES.md says what Midas is): the window of a device has at each address the byte of the latest accepted write
 -- there, and a first fetch delivers what the window has.
-use Prim.Native.Nat.{ℕ, _+_, _-_, _<_, _≤_}
+use Prim.Native.Nat.{ℕ, _+_, _-_, _≤_}
 use native.Mathlib.Omega.{arith}
 use mathlib.Core.Path.{_≡_, refl, ap, sym, subst, _∙_}
-use mathlib.Core.List.{List, [], _∷_, _++_, map}
+use mathlib.Core.List.{List, [], _∷_, _++_}
 use mathlib.Core.Bool.{Bool, true, false, false≢true, not, cond, _&&_}
-use lib.Dec.{leb, ltb, eqb}
+use lib.Dec.{leb, ltb}
 use lib.ListN.{length, getD, length-map}
 use lib.Seq.{ext-getD}
 use borrow.Author.Tests.{leb-true, leb-false, ltb-true, ltb-false, le-leb, lt-ltb, eq-eqb, not-true}
@@ -18,17 +18,17 @@ use Rattle.state.proofs.Places.{length-span}
 use Rattle.cache.specs.HostWrite.{hostSays, hostWindow}
 use Rattle.cache.specs.OwnWrite.{ownSays, ownWindow}
 use Rattle.cache.proofs.Accepted.{host-inside, own-inside}
-use Rattle.cache.specs.Runs.{Call, begin, fetch, end, hostWrite, ownWrite, show, Machine, start, says, after, delivers, along, ran}
-use Rattle.history.specs.Journal.{Event, event, journal, backwards, Deed, began, fetched, ended, other, deedOf, deed}
+use Rattle.cache.specs.Runs.{begin, fetch, end, Machine, says, after, delivers, along, ran}
+use Rattle.history.specs.Journal.{Event, event, backwards, Deed, began, fetched, ended, other, deedOf, deed}
 use Rattle.history.specs.Firsts.{Value, none, first, orElse, memory, isKnown, recall, finds, fetchedSince, owedBy}
 use Rattle.history.specs.Claims.{renews}
 use Rattle.history.proofs.Sound.{Sound, sound-start, sound-ran}
 use Rattle.history.proofs.Delivery.{delivers-owed}
 use Rattle.history.proofs.SameValue.{delivered-at}
 use Rattle.history.proofs.Stored.{memory-search}
-use Rattle.device.specs.Step.{Device, windowLeft}
+use Rattle.device.specs.Step.{Device}
 use Rattle.journal.specs.Run.{freshDevice}
-use Rattle.journal.specs.Writes.{Request, begins, fetches, ends, hostWrites, ownWrites, shows, callOn, next, made, left, pastFrom, reaches, writes}
+use Rattle.journal.specs.Writes.{Request, begins, fetches, ends, hostWrites, ownWrites, shows, callOn, next, made, left, pastFrom, writes}
 use Rattle.journal.specs.Writes.{byteFor, latest, FirstGetsLatest, WrittenSeen, LaterCommandSees, SituationK}
 
 -- One call: the window changes where it is an accepted write

@@ -17,13 +17,14 @@ use Rattle.state.specs.Verdict.{Reply, refused, replied, accepted, verdict}
 use Rattle.state.proofs.Places.{map-read}
 use Rattle.cache.specs.Begin.{beginSays, beginState}
 use Rattle.cache.specs.Fetch.{fetchSays, fetchState}
-use Rattle.cache.specs.Runs.{Call, begin, fetch, Machine, start, says, after, windowAfter, delivers}
+use Rattle.cache.specs.Runs.{Call, begin, fetch, Machine, start, says, after, delivers}
 use Rattle.history.specs.Journal.{fetched, deedOf}
 use Rattle.history.specs.Firsts.{none, first, Memory, remember, memory, recall, orElse, owedBy}
 use Rattle.history.proofs.Effects.{refused-same, length-after}
 use Rattle.history.proofs.Sound.{Sound, sound-start, sound-after}
 use Rattle.history.proofs.Delivery.{delivers-owed}
-use Rattle.situations.specs.Steps.{sameNumbers, sameAnswer, sameRecords, asExpected, Expected, unsaid, is, Made, Step, calls, passes}
+use Rattle.situations.specs.Steps.{fetchAnswers, fetchLeaves, answers, gives, leaves, leavesWindow, sameNumbers, sameAnswer, sameRecords, asExpected}
+use Rattle.situations.specs.Steps.{Expected, unsaid, is, Made, Step, calls, passes}
 use Rattle.situations.specs.Situations.{bytesOf, window, dest, store, opens, fetches, turnedAway, E}
 
 -- a step passes by equations
@@ -38,14 +39,14 @@ same-answer (refused n) = eq-eqb n n refl
 same-answer (replied ns) = same-numbers ns
 
 step :
-    (m : Machine) (t : Made) (ts : List Step) → says m (t .call) ≡ t .answer → delivers m (t .call) ≡ t .bytes
-    → asExpected sameRecords (t .records) (recordsOf (after m (t .call) .state) 0) ≡ true → t .window ≡ unsaid → passes (after m (t .call)) ts ≡ true
+    (m : Machine) (t : Made) (ts : List Step) → answers m (t .call) ≡ t .answer → gives m (t .call) ≡ t .bytes
+    → asExpected sameRecords (t .records) (recordsOf (leaves m (t .call) .state) 0) ≡ true → t .window ≡ unsaid → passes (leaves m (t .call)) ts ≡ true
     → passes m (calls t ∷ ts) ≡ true
 unfolding passes asExpected
 step m t ts answer bytes records silent rest =
-    let says-it : sameAnswer (t .answer) (says m (t .call)) ≡ true = rw answer (same-answer (t .answer)) in
-    let gives-it : sameNumbers (t .bytes) (delivers m (t .call)) ≡ true = rw bytes (same-numbers (t .bytes)) in
-    let leaves-it : asExpected sameNumbers (t .window) (windowAfter m (t .call)) ≡ true = rw silent in
+    let says-it : sameAnswer (t .answer) (answers m (t .call)) ≡ true = rw answer (same-answer (t .answer)) in
+    let gives-it : sameNumbers (t .bytes) (gives m (t .call)) ≡ true = rw bytes (same-numbers (t .bytes)) in
+    let leaves-it : asExpected sameNumbers (t .window) (leavesWindow m (t .call)) ≡ true = rw silent in
     both (both (both (both says-it gives-it) records) leaves-it) rest
 
 -- the call that fills the command, and the one that finds it full
@@ -62,36 +63,39 @@ empty = withCommand freshState 0 (open-with [])
 abbrev full : State
 full = withCommand freshState 0 (open-with (record { start = 0; len = 4096 } ∷ []))
 
--- what is said depends on lengths alone
+-- what is answered depends on lengths alone: by the program that is tried, and by the definition, which the laws of history are about
 abbrev answer : State → (a n : ℕ) → Reply
-answer s a n = fetchSays s 32768 (length window) (length dest) 0 a n
+answer s a n = fetchAnswers s 32768 (length window) (length dest) 0 a n
 
-fill-answer : answer empty 0 4096 ≡ replied (4096 ∷ 0 ∷ [])
+abbrev said : State → (a n : ℕ) → Reply
+said s a n = fetchSays s 32768 (length window) (length dest) 0 a n
+
+-- the three answers of the situation
+three-answers : (answer empty 0 4096 ≡ replied (4096 ∷ 0 ∷ [])) × (answer full 4096 1 ≡ refused 23) × (answer full 0 4096 ≡ replied (0 ∷ 4096 ∷ []))
 unfolding window bytesOf dest fetchSays accepted verdict all ascending commandHolds holds total held span countFresh countHeld keep lowest highest joined
-fill-answer = refl
+three-answers = (refl, refl, refl)
 
-again-answer : answer full 0 4096 ≡ replied (0 ∷ 4096 ∷ [])
+three-said : (accepted (said empty 0 4096) ≡ true) × (accepted (said full 4096 1) ≡ false) × (accepted (said full 0 4096) ≡ true)
 unfolding window bytesOf dest fetchSays accepted verdict all ascending commandHolds holds total held span countFresh countHeld keep lowest highest joined
-again-answer = refl
+three-said = (refl, refl, refl)
 
-past-answer : answer full 4096 1 ≡ refused 23
-unfolding window bytesOf dest fetchSays accepted verdict all ascending commandHolds holds total held span countFresh countHeld keep lowest highest joined
-past-answer = refl
-
-fill-next : fetchState empty 32768 (length window) (length dest) 0 0 4096 ≡ full
+fill-next : fetchLeaves empty 32768 (length window) (length dest) 0 0 4096 ≡ full
 unfolding window bytesOf dest fetchState fetchSays accepted verdict all ascending commandHolds holds total held span countFresh countHeld keep lowest highest joined
 fill-next = refl
 
-again-next : fetchState full 32768 (length window) (length dest) 0 0 4096 ≡ full
+again-next : fetchLeaves full 32768 (length window) (length dest) 0 0 4096 ≡ full
 unfolding window bytesOf dest fetchState fetchSays accepted verdict all ascending commandHolds holds total held span countFresh countHeld keep lowest highest joined
 again-next = refl
 
 module _ (m : Machine) (s : State) (is : m .state ≡ s) (size : length (m .store) ≡ 32768) where
-  says-answer : (a n : ℕ) → says m (fetch 0 a n dest window) ≡ answer s a n
-  says-answer a n = ap₂ (λ (t : State) (k : ℕ). fetchSays t k (length window) (length dest) 0 a n) is size
+  answers-so : (a n : ℕ) → answers m (fetch 0 a n dest window) ≡ answer s a n
+  answers-so a n = ap₂ (λ (t : State) (k : ℕ). fetchAnswers t k (length window) (length dest) 0 a n) is size
 
-  next-state : after m fill .state ≡ fetchState s 32768 (length window) (length dest) 0 0 4096
-  next-state = ap₂ (λ (t : State) (k : ℕ). fetchState t k (length window) (length dest) 0 0 4096) is size
+  says-so : (a n : ℕ) → says m (fetch 0 a n dest window) ≡ said s a n
+  says-so a n = ap₂ (λ (t : State) (k : ℕ). fetchSays t k (length window) (length dest) 0 a n) is size
+
+  next-state : leaves m fill .state ≡ fetchLeaves s 32768 (length window) (length dest) 0 0 4096
+  next-state = ap₂ (λ (t : State) (k : ℕ). fetchLeaves t k (length window) (length dest) 0 0 4096) is size
 
 -- The bytes
 
@@ -152,8 +156,11 @@ unknown : (x : ℕ) → known 0 x ≡ none
 unfolding remember memory
 unknown x = refl
 
-fill-taken : says opened fill ≡ replied (4096 ∷ 0 ∷ [])
-fill-taken = says-answer opened empty opened-state opened-size 0 4096 ∙ fill-answer
+fill-taken : answers opened fill ≡ replied (4096 ∷ 0 ∷ [])
+fill-taken = answers-so opened empty opened-state opened-size 0 4096 ∙ three-answers .0
+
+fill-accepted : accepted (says opened fill) ≡ true
+fill-accepted = ap accepted (says-so opened empty opened-state opened-size 0 4096) ∙ three-said .0
 
 filled : Machine
 filled = after opened fill
@@ -168,29 +175,35 @@ filled-size = length-after opened fill ∙ opened-size
 
 filled-sound : Sound filled (remember known (deedOf true fill))
 unfolding filled accepted
-filled-sound = sound-after opened known fill true (ap accepted fill-taken) opened-sound
+filled-sound = sound-after opened known fill true fill-accepted opened-sound
 
 fill-delivers : delivers opened fill ≡ bytesOf 0 4096
 unfolding accepted
-fill-delivers = delivers-owed opened known fill true (ap accepted fill-taken) opened-sound ∙ first-owed known unknown
+fill-delivers = delivers-owed opened known fill true fill-accepted opened-sound ∙ first-owed known unknown
 
-past-taken : says filled past-full ≡ refused 23
-past-taken = says-answer filled full filled-state filled-size 4096 1 ∙ past-answer
+past-taken : answers filled past-full ≡ refused 23
+past-taken = answers-so filled full filled-state filled-size 4096 1 ∙ three-answers .1
+
+past-refused : accepted (says filled past-full) ≡ false
+past-refused = ap accepted (says-so filled full filled-state filled-size 4096 1) ∙ three-said .1
 
 past-same : after filled past-full ≡ filled
 unfolding accepted
-past-same = refused-same filled past-full (ap accepted past-taken)
+past-same = refused-same filled past-full past-refused
 
 past-delivers : delivers filled past-full ≡ []
 unfolding accepted owedBy
-past-delivers = delivers-owed filled (remember known (deedOf true fill)) past-full false (ap accepted past-taken) filled-sound
+past-delivers = delivers-owed filled (remember known (deedOf true fill)) past-full false past-refused filled-sound
 
-again-taken : says filled fill ≡ replied (0 ∷ 4096 ∷ [])
-again-taken = says-answer filled full filled-state filled-size 0 4096 ∙ again-answer
+again-taken : answers filled fill ≡ replied (0 ∷ 4096 ∷ [])
+again-taken = answers-so filled full filled-state filled-size 0 4096 ∙ three-answers .2
+
+again-accepted : accepted (says filled fill) ≡ true
+again-accepted = ap accepted (says-so filled full filled-state filled-size 0 4096) ∙ three-said .2
 
 again-delivers : delivers filled fill ≡ bytesOf 0 4096
 unfolding accepted
-again-delivers = delivers-owed filled (remember known (deedOf true fill)) fill true (ap accepted again-taken) filled-sound ∙ again-owed known unknown
+again-delivers = delivers-owed filled (remember known (deedOf true fill)) fill true again-accepted filled-sound ∙ again-owed known unknown
 
 again-state : after filled fill .state ≡ full
 again-state = next-state filled full filled-state filled-size ∙ again-next

@@ -1,5 +1,5 @@
--- The marked situations of 01 (the agreed scope, with request F-1 of 02; docs/RULES.md has their rules) with a star. Each starts with
--- command 0 open, no records, and a window of 16,384 bytes.
+-- The marked situations of 01 (the agreed scope, with request F-1 of 02; docs/RULES.md has their rules), those with a star and K. Each starts
+-- with command 0 open, no records, and a window of 16,384 bytes.
 use Prim.Native.Nat.{ℕ, _*_, _%_}
 use mathlib.Core.Path.{_≡_}
 use mathlib.Core.List.{List, [], _∷_, _++_, map}
@@ -9,7 +9,7 @@ use Rattle.octets.specs.Lists.{all}
 use Rattle.state.specs.declared.Record.{Record}
 use Rattle.state.specs.Records.{span}
 use Rattle.state.specs.Verdict.{refused, replied}
-use Rattle.cache.specs.Runs.{begin, fetch, ownWrite, start}
+use Rattle.cache.specs.Runs.{begin, fetch, end, hostWrite, ownWrite, start}
 use Rattle.situations.specs.Steps.{Expected, unsaid, is, Step, calls, reads, passes}
 
 -- the byte at each address is its number modulo 256
@@ -101,9 +101,20 @@ J =
     ∷ calls (record { call = fetch 0 16 2 dest written; answer = replied (0 ∷ 2 ∷ []); bytes = 16 ∷ 17 ∷ []; records = is (16 ∔ 2 ∷ []); window = unsaid })
     ∷ []
 
+-- the same two bytes written by the host, the command ended and begun anew: it gets the new ones
+unfoldable pub K : List Step
+unfolding fetches opens bytesOf window dest written
+K =
+    fetches 16 2 2 0 (is (16 ∔ 2 ∷ []))
+    ∷ calls (record { call = hostWrite 16 (201 ∷ 202 ∷ []) window; answer = replied (2 ∷ []); bytes = []; records = unsaid; window = is written })
+    ∷ calls (record { call = end 0; answer = replied (1 ∷ 2 ∷ []); bytes = []; records = is []; window = unsaid })
+    ∷ opens
+    ∷ calls (record { call = fetch 0 16 2 dest written; answer = replied (2 ∷ 0 ∷ []); bytes = 201 ∷ 202 ∷ []; records = is (16 ∔ 2 ∷ []); window = unsaid })
+    ∷ []
+
 unfoldable pub situations : List (List Step)
-unfolding A B C D E F G H I J
-situations = A ∷ B ∷ C ∷ D ∷ E ∷ F ∷ G ∷ H ∷ I ∷ J ∷ []
+unfolding A B C D E F G H I J K
+situations = A ∷ B ∷ C ∷ D ∷ E ∷ F ∷ G ∷ H ∷ I ∷ J ∷ K ∷ []
 
 -- every situation passes, from the fresh state and command 0's begin on
 abbrev pub Situations : Type 0
