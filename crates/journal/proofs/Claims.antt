@@ -5,13 +5,14 @@ use mathlib.Core.Path.{_≡_, refl, ap, ap₂, sym, _∙_}
 use mathlib.Core.List.{List, [], _∷_, map}
 use mathlib.Core.Bool.{Bool, true, false}
 use lib.ListN.{length, drop}
+use Rattle.octets.proofs.Lists.{both}
 use Rattle.cache.specs.Runs.{Call, Machine, says, after, delivers, along, ran}
 use Rattle.history.proofs.Delivery.{delivery-rule}
 use Rattle.device.specs.Step.{Device}
 use Rattle.device.specs.Frame.{isReadable, takenUp, frameCall, frameSays, frameLeaves, frameDelivers}
 use Rattle.journal.specs.Run.{Entry, entryOf, entriesIn, leftIn, freshDevice}
 use Rattle.journal.proofs.Running.{entries-read, entries-unread, left-read, left-unread}
-use Rattle.journal.specs.Claims.{callsIn, ofCalls, JournalIsRun, LogDelivers}
+use Rattle.journal.specs.Claims.{callsIn, ofCalls, JournalIsRun, LogDelivers, readButLast, UnreadableEnds}
 
 -- with the steps that bound it
 record Steps (k : ℕ) (d : Device) (input : List ℕ) : Type 0 where
@@ -98,6 +99,29 @@ run (suc k) d (x ∷ xs) = go (isReadable (x ∷ xs)) refl (run k (frameLeaves d
 
 pub journal-is-run : JournalIsRun
 journal-is-run d input = let S = run (length input) d input in record { answers = S .answers; delivered = S .delivered; leaves = S .leaves }
+
+-- An unreadable frame is the last
+
+read-on : (e : Entry) (es : List Entry) → e .readable ≡ true → readButLast es ≡ true → readButLast (e ∷ es) ≡ true
+unfolding readButLast
+read-on e [] h others = refl
+read-on e (f ∷ es) h others = both h others
+
+ends : (k : ℕ) (d : Device) (input : List ℕ) → readButLast (entriesIn k d input) ≡ true
+unfolding entriesIn readButLast
+ends zero d input = refl
+ends (suc k) d [] = refl
+ends (suc k) d (x ∷ xs) = go (isReadable (x ∷ xs)) refl (ends k (frameLeaves d (x ∷ xs)) (drop (takenUp (x ∷ xs)) (x ∷ xs)))
+  where
+    others : List Entry
+    others = entriesIn k (frameLeaves d (x ∷ xs)) (drop (takenUp (x ∷ xs)) (x ∷ xs))
+
+    go : (b : Bool) → isReadable (x ∷ xs) ≡ b → readButLast others ≡ true → readButLast (entriesIn (suc k) d (x ∷ xs)) ≡ true
+    go true e h = ap readButLast (entries-read k d (x ∷ xs) (omega arith) e) ∙ read-on (entryOf d (x ∷ xs)) others e h
+    go false e h = ap readButLast (entries-unread k d (x ∷ xs) (omega arith) e)
+
+pub unreadable-ends : UnreadableEnds
+unreadable-ends d input = ends (length input) d input
 
 pub log-delivers : LogDelivers
 log-delivers store window dest input =

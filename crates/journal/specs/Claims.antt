@@ -2,7 +2,7 @@
 use Prim.Native.Nat.{ℕ, zero, suc, _+_, _^_, _≤_, _<_}
 use mathlib.Core.Path.{_≡_}
 use mathlib.Core.List.{List, [], _∷_, map}
-use mathlib.Core.Bool.{true, false, cond}
+use mathlib.Core.Bool.{Bool, true, false, cond, _&&_}
 use mathlib.Core.Logic.{_↔_}
 use lib.ListN.{length, drop}
 use Rattle.cache.specs.Runs.{Call, says, delivers, along, ran}
@@ -45,6 +45,16 @@ LogDelivers =
     (store window dest input : List ℕ) →
     let d = freshDevice store window dest in
     map (λ e. e .delivered) (ofCalls (entries d input)) ≡ told owed [] (journal store (calls d input))
+
+-- is every entry but the last of a frame that was read?
+unfoldable pub readButLast : List Entry → Bool
+readButLast [] = true
+readButLast (e ∷ []) = true
+readButLast (e ∷ f ∷ es) = e .readable && readButLast (f ∷ es)
+
+-- 01's rule that an unreadable frame ends the run: no line of the log follows its line.
+abbrev pub UnreadableEnds : Type 0
+UnreadableEnds = (d : Device) (input : List ℕ) → readButLast (entries d input) ≡ true
 
 -- The calls of a journal are those that its requests make on the device, so that what is claimed of requests holds of journals.
 abbrev pub JournalIsMade : Type 0
