@@ -9,7 +9,7 @@ use Rattle.state.specs.Records.{past, held, fresh, replayed, shares, tou
 use Rattle.state.specs.State.{State, recordsOf, ascending, holds}
 use Rattle.state.specs.Runs.{runs}
 
--- The two counts of a span are told apart, each by its own addresses, and leave none out.
+-- 01's two counts of a span, each counted by itself, make up its length.
 abbrev pub CountsFill : Type 0
 CountsFill = (rs : List Record) (a n : ℕ) → fresh rs a n + replayed rs a n ≡ n
 
