@@ -1,5 +1,5 @@
--- What show gives of a command, and what begin and end leave of its part of the store, told for the calls and for no list of them (01, the
--- agreed scope, "The calls"; docs/RULES.md has its rules).
+-- The claims about single calls: what show gives of a command, and what begin and end leave of its part of the store (01, the agreed
+-- scope, "The calls"; docs/RULES.md has its rules).
 use Prim.Native.Nat.{ℕ, _≤_, _<_}
 use mathlib.Core.Path.{_≡_}
 use mathlib.Core.List.{List, [], _∷_, map}

@@ -15,7 +15,7 @@ use Rattle.state.specs.State.{State, recordsOf, ascending, holds}
 use Rattle.state.specs.Runs.{runs}
 use Rattle.state.specs.Join.{meeting, replaced}
 
--- The two counts of a span are told apart, each by its own addresses, and leave none out.
+-- 01's two counts of a span, each counted by itself, make up its length.
 abbrev pub CountsFill : Type 0
 CountsFill = (rs : List Record) (a n : ℕ) → fresh rs a n + replayed rs a n ≡ n
 
