@@ -24,7 +24,9 @@ use Rattle.device.specs.Claims.{Untouched, RefusedFrame, listed, ofReade
 -- A refused call
 
 call-leaves :
-    (d : Device) (s : Step) (bytes : List ℕ) → let p = callOf s bytes (d .dest) (d .window) in accepted (says (d .machine) p) ≡ false → deviceAfter d p ≡ d
+    (d : Device) (s : Step) (bytes : List ℕ) →
+    let p = callOf s bytes (d .dest) (d .window) in
+    accepted (says (d .machine) p) ≡ false → deviceAfter d p ≡ d
 unfolding beginState beginStore fetchState fetchStore fetchDest endState endStore hostWindow ownWindow
 call-leaves d (Begin c) bytes e = rw e
 call-leaves d (Fetch c a n) bytes e = rw e

@@ -41,7 +41,7 @@ pub record Fetches (words store window dest : List ℕ) (c a n : ℕ) (r : Fetch
   pub bytes : store′ ≡ fetchStore (stateOf words) store window dest c a n
   pub delivered : dest′ ≡ fetchDest (stateOf words) store window dest c a n
 
--- takes neither state nor store
+-- neither state nor store is lent
 pub record HostWrites (window : List ℕ) (a : ℕ) (bytes : List ℕ) (r : Written) (window′ : List ℕ) : Type 0 where
   pub answer : r ≡ writtenOf (hostSays (length window) a (length bytes))
   pub host : window′ ≡ hostWindow window a bytes
@@ -53,16 +53,16 @@ pub record OwnWrites (words store window : List ℕ) (c a : ℕ) (bytes : List �
   pub stored : store′ ≡ store
   pub host : window′ ≡ ownWindow (stateOf words) window c a bytes
 
--- looks at the state alone
+-- the state alone is lent, and not to be written
 pub record Shows (words : List ℕ) (c i : ℕ) (r : Shown) : Type 0 where
   pub answer : r ≡ shownOf (showSays (stateOf words) c i)
 
--- Each call of the code answers what `says` says of its call, and leaves what the lists of calls hand on: state and store as `after`, a
--- fetch's destination and a write's window as `destAfter` and `windowAfter`.
 module _ (words store : List ℕ) where
   abbrev m : Machine
   m = given words store
 
+  -- Each call of the code answers what `says` says of its call, and leaves what the lists of calls hand on: state and store as `after`, a
+  -- fetch's destination as `destAfter` and a write's window as `windowAfter`.
   pub record Tied : Type 0 where
     pub begins : {c : ℕ} {r : Begun} {words′ store′ : List ℕ} → Begins words store c r words′ store′
         → (r ≡ begunOf (says m (begin c))) × (given words′ store′ ≡ after m (begin c))

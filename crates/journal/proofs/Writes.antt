@@ -29,7 +29,9 @@ use Rattle.history.proofs.Stored.{memory-search}
 use Rattle.device.specs.Step.{Device}
 use Rattle.journal.specs.Run.{freshDevice}
 use Rattle.journal.specs.Writes.{Request, begins, fetches, ends, hostWrites, ownWrites, shows, callOn, next, made, left, pastFrom, writes}
-use Rattle.journal.specs.Writes.{byteFor, latest, FirstGetsLatest, WrittenSeen, LaterCommandSees, SituationK}
+use Rattle.journal.specs.Writes.{byteFor, latest, isAccepted, isFetched, isUndisturbed, byteAt}
+use Rattle.journal.specs.Writes.{beforeWrite, pastOfWrite, theWrite, eventsBetween, beforeFetch}
+use Rattle.journal.specs.Writes.{FirstGetsLatest, WrittenSeen, SituationK}
 
 -- One call: the window changes where it is an accepted write
 
@@ -131,23 +133,46 @@ first-gets-latest store window dest qs c a n x got firstly =
 
 -- A write before it
 
-pub written-seen : WrittenSeen
-unfolding latest left made along backwards
-written-seen store window dest before write between c a n x calm got firstly =
-    let d = freshDevice store window dest in
-    let d₁ = left d before in
-    let past₁ = pastFrom [] d before in
-    let e = event (d₁ .machine) (callOn d₁ write) in
-    let d₂ = next d₁ write in
-    let es = along event (d₂ .machine) (made d₂ between) in
-    let wrote = and-left (writes x e) (all (λ f. not (writes x f)) es) calm in
-    let quiet = and-right (writes x e) (all (λ f. not (writes x f)) es) calm in
-    let taken = accepted (says (left d₂ between .machine) (callOn (left d₂ between) (fetches c a n))) in
-    let S = sound-left (e ∷ past₁) d₂ between (sound-left past₁ d₁ (write ∷ []) (sound-left [] d before (sound-start store))) in
-    let W = window-left window (e ∷ past₁) d₂ between (window-left window past₁ d₁ (write ∷ []) (window-left window [] d before (λ y. refl))) in
-    first-gets store window (backwards (e ∷ past₁) es) (left d₂ between) S W c a n x (and-left taken (inSpan a n x) got)
-    (and-right taken (inSpan a n x) got) firstly
-    ∙ latest-stays window (e ∷ past₁) es x quiet ∙ rw wrote
+module _ (store window dest : List ℕ) (before : List Request) (write : Request) (between : List Request) where
+  abbrev d : Device
+  d = beforeWrite store window dest before write between
+
+  abbrev past : List Event
+  past = pastOfWrite store window dest before write between
+
+  abbrev e : Event
+  e = theWrite store window dest before write between
+
+  abbrev es : List Event
+  es = eventsBetween store window dest before write between
+
+  abbrev d′ : Device
+  d′ = beforeFetch store window dest before write between
+
+  sound-before : Sound (d′ .machine) (memory (backwards (e ∷ past) es))
+  unfolding left made along backwards
+  sound-before =
+      let start = freshDevice store window dest in
+      sound-left (e ∷ past) (next d write) between (sound-left past d (write ∷ []) (sound-left [] start before (sound-start store)))
+
+  window-before : (x : ℕ) → getD (d′ .window) x 0 ≡ latest window (backwards (e ∷ past) es) x
+  unfolding latest left made along backwards
+  window-before =
+      let start = freshDevice store window dest in
+      window-left window (e ∷ past) (next d write) between
+      (window-left window past d (write ∷ []) (window-left window [] start before (λ y. refl)))
+
+  seen-first :
+      (c a n x : ℕ) → isUndisturbed store window dest before write between x ≡ true → isFetched d′ c a n x ≡ true
+      → fetchedSince (backwards (e ∷ past) es) c x ≡ false → byteAt d′ c a n x ≡ byteFor (e .call) x
+  unfolding latest
+  seen-first c a n x calm got firstly =
+      let wrote = and-left (writes x e) (all (λ f. not (writes x f)) es) calm in
+      let quiet = and-right (writes x e) (all (λ f. not (writes x f)) es) calm in
+      let taken = isAccepted d′ (fetches c a n) in
+      first-gets store window (backwards (e ∷ past) es) d′ sound-before window-before c a n x (and-left taken (inSpan a n x) got)
+      (and-right taken (inSpan a n x) got) firstly
+      ∙ latest-stays window (e ∷ past) es x quiet ∙ rw wrote
 
 -- A begin after it: the search back does not look behind the begin
 
@@ -178,14 +203,15 @@ search-since-begin (e ∷ es) past past′ c x h = go (renews c x (deed e)) refl
     go true r further = same-search es (e ∷ past) (e ∷ past′) c x (begin-ends-search (deed e) c x (fetchedSince past c x) (fetchedSince past′ c x) r)
     go false r further = further (rw r at h)
 
-pub later-command-sees : LaterCommandSees
-later-command-sees store window dest before write between c a n x calm got begun firstly =
-    let d = freshDevice store window dest in
-    let d₁ = left d before in
-    let past₁ = pastFrom [] d before in
-    let e = event (d₁ .machine) (callOn d₁ write) in
-    let es = along event (next d₁ write .machine) (made (next d₁ write) between) in
-    written-seen store window dest before write between c a n x calm got (search-since-begin es (e ∷ past₁) [] c x begun ∙ firstly)
+pub written-seen : WrittenSeen
+written-seen store window dest before write between = record {
+  first = seen-first store window dest before write between;
+  later = λ c a n x calm got begun firstly.
+      let past = pastOfWrite store window dest before write between in
+      let e = theWrite store window dest before write between in
+      let es = eventsBetween store window dest before write between in
+      seen-first store window dest before write between c a n x calm got (search-since-begin es (e ∷ past) [] c x begun ∙ firstly);
+}
 
 -- Situation K
 
@@ -221,7 +247,7 @@ situation-k store window dest before c a bytes hosted begun taken =
     let in-span : inSpan a n (a + i) ≡ true = both (le-leb a (a + i) (omega arith)) (lt-ltb (a + i) (a + n) (omega (arith, size))) in
     let place : a + i - a ≡ i = omega arith in
     subst (λ (k : ℕ). getD gone k 0 ≡ getD bytes k 0) place
-    (later-command-sees store window dest past (hostWrites a bytes) (ends c ∷ begins c ∷ []) c a n (a + i)
+    (written-seen store window dest past (hostWrites a bytes) (ends c ∷ begins c ∷ []) .later c a n (a + i)
     (both (both in-span hosted) refl)
     (both taken in-span)
     (rw begun (rw (eq-eqb c c refl) (not-renewed (accepted (says (d₂ .machine) (end c))) c (a + i) false)))

@@ -68,10 +68,10 @@ module _ (store window dest input : List ℕ) where
   abbrev pub firstsIn : List (List First)
   firstsIn = told firsts [] (journal store (calls (freshDevice store window dest) input))
 
--- Two journals from the same fresh device that are read alike but for the bytes of host writes. Line by line their logs have the same letters
--- and the same answers, counts and refusals included. They tell the same bytes, too, exactly if the first fetches agree; and then they are
--- one log.
 module _ (store window dest one other : List ℕ) where
+  -- Two journals from the same fresh device that are read alike but for the bytes of host writes: line by line their logs have the same
+  -- letters and the same answers, counts and refusals included. They tell the same bytes, too, exactly if the first fetches agree; and then
+  -- they are one log.
   pub record EqualLogs : Type 0 where
     pub letters : map (λ e. e .letter) (logged store window dest one) ≡ map (λ e. e .letter) (logged store window dest other)
     pub answers : map (λ e. e .reply) (logged store window dest one) ≡ map (λ e. e .reply) (logged store window dest other)

@@ -76,10 +76,14 @@ unfoldable pub latest : (window : List ℕ) → List Event → ℕ → ℕ
 latest window [] x = getD window x 0
 latest window (e ∷ past) x = cond (writes x e) (byteFor (e .call) x) (latest window past x)
 
+-- is a request accepted?
+abbrev pub isAccepted : Device → Request → Bool
+isAccepted d q = accepted (says (d .machine) (callOn d q))
+
 -- is a fetch accepted that has an address in its span, and which byte does it deliver there?
 module _ (d : Device) (c a n x : ℕ) where
   abbrev pub isFetched : Bool
-  isFetched = accepted (says (d .machine) (callOn d (fetches c a n))) && inSpan a n x
+  isFetched = isAccepted d (fetches c a n) && inSpan a n x
 
   abbrev pub byteAt : ℕ
   byteAt = getD (delivers (d .machine) (callOn d (fetches c a n))) (x - a) 0
@@ -118,53 +122,28 @@ module _ (store window dest : List ℕ) (before : List Request) (write : Request
   abbrev pub isUndisturbed : ℕ → Bool
   isUndisturbed x = writes x theWrite && all (λ e. not (writes x e)) eventsBetween
 
-  abbrev pub GetsWritten : (c a n x : ℕ) → Type 0
-  GetsWritten c a n x = byteAt beforeFetch c a n x ≡ byteFor (theWrite .call) x
+  -- Midas' second property: a fetch gets the written byte if it is the command's first of the address since its begin; and it is, where the
+  -- command began after the write, whichever command wrote, and has not fetched the address since.
+  pub record Seen : Type 0 where
+    pub first : (c a n x : ℕ) → isUndisturbed x ≡ true → isFetched beforeFetch c a n x ≡ true
+        → fetchedSince (backwards (theWrite ∷ pastOfWrite) eventsBetween) c x ≡ false → byteAt beforeFetch c a n x ≡ byteFor (theWrite .call) x
+    pub later : (c a n x : ℕ) → isUndisturbed x ≡ true → isFetched beforeFetch c a n x ≡ true
+        → all (λ e. not (renews c x (deed e))) eventsBetween ≡ false → fetchedSince (backwards [] eventsBetween) c x ≡ false
+        → byteAt beforeFetch c a n x ≡ byteFor (theWrite .call) x
 
-  -- the fetch is the command's first of the address since its begin
-  abbrev pub SeesWritten : Type 0
-  SeesWritten =
-      (c a n x : ℕ) → isUndisturbed x ≡ true → isFetched beforeFetch c a n x ≡ true
-      → fetchedSince (backwards (theWrite ∷ pastOfWrite) eventsBetween) c x ≡ false → GetsWritten c a n x
-
-  -- the command began after the write, whichever command wrote, and has not fetched the address since
-  abbrev pub SeesEarlier : Type 0
-  SeesEarlier =
-      (c a n x : ℕ) → isUndisturbed x ≡ true → isFetched beforeFetch c a n x ≡ true
-      → all (λ e. not (renews c x (deed e))) eventsBetween ≡ false → fetchedSince (backwards [] eventsBetween) c x ≡ false
-      → GetsWritten c a n x
-
--- Midas' second property: the first fetch of an address after a write there gets the written byte.
+-- The first fetch of an address after a write there gets the written byte, and a later command sees what an earlier one wrote.
 abbrev pub WrittenSeen : Type 0
 WrittenSeen =
-    (store window dest : List ℕ) (before : List Request) (write : Request) (between : List Request) → SeesWritten store window dest before write between
-
--- So a later command sees what an earlier one wrote.
-abbrev pub LaterCommandSees : Type 0
-LaterCommandSees =
-    (store window dest : List ℕ) (before : List Request) (write : Request) (between : List Request) → SeesEarlier store window dest before write between
+    (store window dest : List ℕ) (before : List Request) (write : Request) (between : List Request) → Seen store window dest before write between
 
 -- Situation K of 01, whatever was called before it, for every command, address and bytes: fetch, host write over the span, end, begin, and the
 -- same fetch delivers what the host wrote.
-module _ (store window dest : List ℕ) (before : List Request) (c a : ℕ) (bytes : List ℕ) where
-  abbrev pub afterFetch : Device
-  afterFetch = left (freshDevice store window dest) (before ++ fetches c a (length bytes) ∷ [])
-
-  abbrev pub afterHost : Device
-  afterHost = next afterFetch (hostWrites a bytes)
-
-  abbrev pub afterEnd : Device
-  afterEnd = next afterHost (ends c)
-
-  abbrev pub afterBegin : Device
-  afterBegin = next afterEnd (begins c)
-
-  abbrev pub NewBytes : Type 0
-  NewBytes =
-      accepted (says (afterFetch .machine) (callOn afterFetch (hostWrites a bytes))) ≡ true
-      → accepted (says (afterEnd .machine) (begin c)) ≡ true
-      → accepted (says (afterBegin .machine) (callOn afterBegin (fetches c a (length bytes)))) ≡ true
-      → delivers (afterBegin .machine) (callOn afterBegin (fetches c a (length bytes))) ≡ bytes
-
 abbrev pub SituationK : Type 0
-SituationK = (store window dest : List ℕ) (before : List Request) (c a : ℕ) (bytes : List ℕ) → NewBytes store window dest before c a bytes
+SituationK =
+    (store window dest : List ℕ) (before : List Request) (c a : ℕ) (bytes : List ℕ) →
+    let same = fetches c a (length bytes) in
+    let fetched = left (freshDevice store window dest) (before ++ same ∷ []) in
+    let ended = next (next fetched (hostWrites a bytes)) (ends c) in
+    let begun = next ended (begins c) in
+    isAccepted fetched (hostWrites a bytes) ≡ true → isAccepted ended (begins c) ≡ true → isAccepted begun same ≡ true
+    → delivers (begun .machine) (callOn begun same) ≡ bytes
