@@ -5,7 +5,7 @@ use mathlib.Core.List.{List, [], _∷_}
 use mathlib.Core.Bool.{Bool, true, false}
 use Rattle.octets.specs.Lists.{all}
 use Rattle.octets.proofs.Lists.{and-left, and-right}
-use Rattle.state.specs.Verdict.{refused, replied, accepted, Check, verdict}
+use Rattle.state.specs.Verdict.{replied, accepted, Check, verdict}
 use Rattle.frames.specs.declared.Step.{Step}
 use Rattle.frames.specs.declared.Step.the-variants.{Begin, Fetch, End, HostWrite, OwnWrite}
 use Rattle.frames.specs.Read.{fieldsSay, readSays, dataOf}

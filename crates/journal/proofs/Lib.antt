@@ -5,3 +5,4 @@ pub mod Readings
 pub mod EqualLogs
 pub mod Fits
 pub mod Worked
+pub mod Uses

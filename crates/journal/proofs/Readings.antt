@@ -13,11 +13,11 @@ use Rattle.kinds.specs.Table.{kindOf}
 use Rattle.cache.specs.Runs.{Call, says, delivers}
 use Rattle.device.specs.Step.{Device, callOf, deviceAfter}
 use Rattle.device.specs.Frame.{isReadable, takenUp, frameCall, frameSays, frameLeaves, frameDelivers}
-use Rattle.journal.specs.Run.{Entry, entryOf, entriesIn, entries}
-use Rattle.journal.specs.Writes.{made, callOn}
+use Rattle.journal.specs.Run.{Entry, entryOf, entriesIn, leftIn}
+use Rattle.journal.specs.Writes.{Request, callOn, made, left}
 use Rattle.journal.specs.Readings.{Reading, readingOf, readingsIn, stepIn, requestOf, requestsOf}
-use Rattle.journal.specs.Claims.{callsIn, calls, JournalIsMade}
-use Rattle.journal.proofs.Running.{entries-read, entries-unread}
+use Rattle.journal.specs.Claims.{callsIn, JournalIsMade}
+use Rattle.journal.proofs.Running.{entries-read, entries-unread, left-read, left-unread}
 use Rattle.journal.proofs.Claims.{calls-read, calls-unread}
 
 -- the call of a reading on a device, and the device after it
@@ -67,10 +67,10 @@ calls-by-readings zero d input = refl
 calls-by-readings (suc k) d [] = refl
 calls-by-readings (suc k) d (x ∷ xs) = go (isReadable (x ∷ xs)) refl (calls-by-readings k (frameLeaves d (x ∷ xs)) (drop (takenUp (x ∷ xs)) (x ∷ xs)))
   where
-    left : Device
-    left = frameLeaves d (x ∷ xs)
+    then : Device
+    then = frameLeaves d (x ∷ xs)
 
-    go : (b : Bool) → isReadable (x ∷ xs) ≡ b → callsIn k left (rest k x xs) ≡ callsOf left (readingsIn k (rest k x xs))
+    go : (b : Bool) → isReadable (x ∷ xs) ≡ b → callsIn k then (rest k x xs) ≡ callsOf then (readingsIn k (rest k x xs))
         → callsIn (suc k) d (x ∷ xs) ≡ callsOf d (readingsIn (suc k) (x ∷ xs))
     go true e others =
         calls-read k d x xs e
@@ -89,6 +89,14 @@ made-on d (End c) bytes = refl
 made-on d (HostWrite a n) bytes = refl
 made-on d (OwnWrite c a n) bytes = refl
 
+requests-of-read : (r : Reading) (rs : List Reading) → accepted (r .says) ≡ true → requestsOf (r ∷ rs) ≡ requestOf (stepIn r) (r .bytes) ∷ requestsOf rs
+unfolding requestsOf
+requests-of-read r rs e = rw (requestsOf, e)
+
+requests-of-unread : (r : Reading) (rs : List Reading) → accepted (r .says) ≡ false → requestsOf (r ∷ rs) ≡ []
+unfolding requestsOf
+requests-of-unread r rs e = rw (requestsOf, e)
+
 calls-made : (d : Device) (rs : List Reading) → callsOf d rs ≡ made d (requestsOf rs)
 unfolding callsOf made requestsOf
 calls-made d [] = refl
@@ -101,8 +109,34 @@ calls-made d (r ∷ rs) = go (accepted (r .says)) refl (calls-made (thenIn d r) 
         rw (callsOf, requestsOf, e) (ap₂ _∷_ is (rest ∙ ap (λ (p : Call). made (deviceAfter d p) (requestsOf rs)) is))
     go false e rest = rw (callsOf, requestsOf, e)
 
+left-by-readings : (k : ℕ) (d : Device) (input : List ℕ) → leftIn k d input ≡ left d (requestsOf (readingsIn k input))
+unfolding leftIn readingsIn requestsOf left
+left-by-readings zero d input = refl
+left-by-readings (suc k) d [] = refl
+left-by-readings (suc k) d (x ∷ xs) = go (isReadable (x ∷ xs)) refl (left-by-readings k (frameLeaves d (x ∷ xs)) (drop (takenUp (x ∷ xs)) (x ∷ xs)))
+  where
+    then : Device
+    then = frameLeaves d (x ∷ xs)
+
+    others : List Request
+    others = requestsOf (readingsIn k (rest k x xs))
+
+    go : (b : Bool) → isReadable (x ∷ xs) ≡ b → leftIn k then (rest k x xs) ≡ left then others
+        → leftIn (suc k) d (x ∷ xs) ≡ left d (requestsOf (readingsIn (suc k) (x ∷ xs)))
+    go true e h =
+        let r = readingOf (x ∷ xs) in
+        left-read k d (x ∷ xs) (omega arith) e ∙ h ∙ ap (λ (l : Device). left l others) (leaves-read d (x ∷ xs) e)
+        ∙ ap (λ (p : Call). left (deviceAfter d p) others) (made-on d (stepIn r) (r .bytes))
+        ∙ ap (left d) (sym (requests-of-read r (readingsIn k (rest k x xs)) e) ∙ sym (ap requestsOf (readings-read k x xs e)))
+    go false e h =
+        left-unread k d (x ∷ xs) (omega arith) e
+        ∙ ap (left d) (sym (requests-of-unread (readingOf (x ∷ xs)) [] e) ∙ sym (ap requestsOf (readings-unread k x xs e)))
+
 pub journal-is-made : JournalIsMade
-journal-is-made d input = calls-by-readings (length input) d input ∙ calls-made d (readingsIn (length input) input)
+journal-is-made d input = record {
+  makes = calls-by-readings (length input) d input ∙ calls-made d (readingsIn (length input) input);
+  leaves = left-by-readings (length input) d input;
+}
 
 -- The entries
 
@@ -138,10 +172,10 @@ entries-by-readings zero d input = refl
 entries-by-readings (suc k) d [] = refl
 entries-by-readings (suc k) d (x ∷ xs) = go (isReadable (x ∷ xs)) refl (entries-by-readings k (frameLeaves d (x ∷ xs)) (drop (takenUp (x ∷ xs)) (x ∷ xs)))
   where
-    left : Device
-    left = frameLeaves d (x ∷ xs)
+    then : Device
+    then = frameLeaves d (x ∷ xs)
 
-    go : (b : Bool) → isReadable (x ∷ xs) ≡ b → entriesIn k left (rest k x xs) ≡ entriesOf left (readingsIn k (rest k x xs))
+    go : (b : Bool) → isReadable (x ∷ xs) ≡ b → entriesIn k then (rest k x xs) ≡ entriesOf then (readingsIn k (rest k x xs))
         → entriesIn (suc k) d (x ∷ xs) ≡ entriesOf d (readingsIn (suc k) (x ∷ xs))
     go true e others =
         entries-read k d (x ∷ xs) (omega arith) e

@@ -18,7 +18,7 @@ use Rattle.state.proofs.Places.{length-span}
 use Rattle.cache.specs.HostWrite.{hostSays, hostWindow}
 use Rattle.cache.specs.OwnWrite.{ownSays, ownWindow}
 use Rattle.cache.proofs.Accepted.{host-inside, own-inside}
-use Rattle.cache.specs.Runs.{begin, fetch, end, Machine, says, after, delivers, along, ran}
+use Rattle.cache.specs.Runs.{fetch, end, Machine, says, delivers, along, ran}
 use Rattle.history.specs.Journal.{Event, event, backwards, Deed, began, fetched, ended, other, deedOf, deed}
 use Rattle.history.specs.Firsts.{Value, none, first, orElse, memory, isKnown, recall, finds, fetchedSince, owedBy}
 use Rattle.history.specs.Claims.{renews}

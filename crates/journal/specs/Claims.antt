@@ -12,7 +12,7 @@ use Rattle.log.specs.Line.{lineOf}
 use Rattle.device.specs.Step.{Device}
 use Rattle.device.specs.Frame.{isReadable, takenUp, letterOf, frameCall, frameSays, frameLeaves, frameDelivers}
 use Rattle.journal.specs.Run.{Entry, entries, journalLeaves, freshDevice, logFrom}
-use Rattle.journal.specs.Writes.{made}
+use Rattle.journal.specs.Writes.{made, left}
 use Rattle.journal.specs.Readings.{readings, butHostBytes, requests}
 
 -- the calls of a journal's readable frames, in their order; each is given the window that the one before it left
@@ -56,9 +56,14 @@ readButLast (e ∷ f ∷ es) = e .readable && readButLast (f ∷ es)
 abbrev pub UnreadableEnds : Type 0
 UnreadableEnds = (d : Device) (input : List ℕ) → readButLast (entries d input) ≡ true
 
--- The calls of a journal are those that its requests make on the device, so that what is claimed of requests holds of journals.
+-- The calls of a journal are those that its requests make on the device, and it leaves what they leave: what is claimed of requests holds of
+-- journals.
+pub record IsMade (d : Device) (input : List ℕ) : Type 0 where
+  pub makes : calls d input ≡ made d (requests input)
+  pub leaves : journalLeaves d input ≡ left d (requests input)
+
 abbrev pub JournalIsMade : Type 0
-JournalIsMade = (d : Device) (input : List ℕ) → calls d input ≡ made d (requests input)
+JournalIsMade = (d : Device) (input : List ℕ) → IsMade d input
 
 -- what the log of a journal from the fresh state tells, and the first fetches in the journal
 module _ (store window dest input : List ℕ) where
