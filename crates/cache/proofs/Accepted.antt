@@ -1,12 +1,12 @@
 -- What an accepted call tells: none of its checks applies, and its reply is given.
-use Prim.Native.Nat.{ℕ, _+_, _-_, _≤_, _<_}
+use Prim.Native.Nat.{ℕ, _+_, _≤_, _<_}
 use mathlib.Core.Path.{_≡_}
 use mathlib.Core.List.{[], _∷_}
 use mathlib.Core.Bool.{true}
 use lib.ListN.{length}
 use borrow.Author.Tests.{ltb-false, leb-false, eqb-true, not-false}
 use Rattle.state.specs.Limits.{commandLimit, recordLimit, heldLimit, windowLimit, storeSize}
-use Rattle.state.specs.Records.{total, fresh, joined}
+use Rattle.state.specs.Records.{total, fresh, replayed, joined}
 use Rattle.state.specs.State.{State, recordsOf, isOpen, holds}
 use Rattle.state.specs.Verdict.{replied, accepted}
 use Rattle.state.proofs.Verdict.{none-applies, given}
@@ -72,7 +72,7 @@ module _ (s : State) (storeLen windowLen destLen c a n : ℕ) (e : accepted (fet
         few = ltb-false _ _ (k .1 .1 .1 .1 .0);
       }
 
-  pub fetched-reply : fetchSays s storeLen windowLen destLen c a n ≡ replied (fresh (recordsOf s c) a n ∷ (n - fresh (recordsOf s c) a n) ∷ [])
+  pub fetched-reply : fetchSays s storeLen windowLen destLen c a n ≡ replied (fresh (recordsOf s c) a n ∷ replayed (recordsOf s c) a n ∷ [])
   unfolding fetchSays
   fetched-reply = given _ _ e
 

@@ -1,11 +1,11 @@
 -- Fetch, as in 01 (the agreed scope; docs/RULES.md has its rules): the span goes to the destination, and its bytes are held. The answer
 -- and the state depend on the lengths of the buffers and on no byte in them.
-use Prim.Native.Nat.{ℕ, _-_}
+use Prim.Native.Nat.{ℕ}
 use mathlib.Core.List.{List, [], _∷_, _++_, map}
 use mathlib.Core.Bool.{cond}
 use lib.ListN.{length}
 use Rattle.octets.specs.Lists.{overwrite}
-use Rattle.state.specs.Records.{span, fresh, joined}
+use Rattle.state.specs.Records.{span, fresh, replayed, joined}
 use Rattle.state.specs.State.{State, recordsOf, open-with, withCommand}
 use Rattle.state.specs.Verdict.{Reply, replied, accepted, Check, verdict}
 use Rattle.state.specs.Checks.{lengthTooLong, commandTooHigh, windowTooLong, storeWrongSize, outsideWindow, bufferTooShort, stateBroken, commandNotOpen}
@@ -25,7 +25,7 @@ module _ (s : State) (storeLen windowLen destLen c a n : ℕ) where
 
   -- the reply: fresh, and replayed
   unfoldable pub fetchSays : Reply
-  fetchSays = let f = fresh (recordsOf s c) a n in verdict fetchChecks (replied (f ∷ (n - f) ∷ []))
+  fetchSays = let rs = recordsOf s c in verdict fetchChecks (replied (fresh rs a n ∷ replayed rs a n ∷ []))
 
   unfoldable pub fetchState : State
   fetchState = cond (accepted fetchSays) (withCommand s c (open-with (joined (recordsOf s c) a n))) s

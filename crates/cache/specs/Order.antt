@@ -1,12 +1,12 @@
 -- The rule of 01 (the agreed scope; docs/RULES.md has its rules) on which refusal is given, and its list of those that can apply to each
 -- call.
-use Prim.Native.Nat.{ℕ, _-_}
+use Prim.Native.Nat.{ℕ}
 use mathlib.Core.Path.{_≡_}
 use mathlib.Core.List.{List, [], _∷_, map}
 use mathlib.Core.Bool.{true}
 use lib.ListN.{length, getD}
 use Rattle.octets.specs.Lists.{all}
-use Rattle.state.specs.Records.{total, fresh}
+use Rattle.state.specs.Records.{total, fresh, replayed}
 use Rattle.state.specs.State.{State, recordsOf, noRecord}
 use Rattle.state.specs.Verdict.{replied, Check, numbers, applying, ascendFrom, lowestOr}
 use Rattle.cache.specs.Begin.{beginChecks, beginSays}
@@ -40,7 +40,7 @@ module _ (s : State) (storeLen windowLen destLen c a n i : ℕ) where
     pub ends : endSays s storeLen c ≡ lowestOr (applying (endChecks s storeLen c)) (replied (length (recordsOf s c) ∷ total (recordsOf s c) ∷ []))
     pub fetches :
         fetchSays s storeLen windowLen destLen c a n
-        ≡ lowestOr (applying (fetchChecks s storeLen windowLen destLen c a n)) (replied (fresh (recordsOf s c) a n ∷ (n - fresh (recordsOf s c) a n) ∷ []))
+        ≡ lowestOr (applying (fetchChecks s storeLen windowLen destLen c a n)) (replied (fresh (recordsOf s c) a n ∷ replayed (recordsOf s c) a n ∷ []))
     pub hostWrites : hostSays windowLen a n ≡ lowestOr (applying (hostChecks windowLen a n)) (replied (n ∷ []))
     pub ownWrites : ownSays s windowLen c a n ≡ lowestOr (applying (ownChecks s windowLen c a n)) (replied (n ∷ []))
     pub shows :

@@ -13,14 +13,14 @@ use Rattle.state.specs.declared.Record.{Record}
 use Rattle.state.specs.declared.refusal.Refusal.{Refusal}
 use Rattle.state.specs.declared.refusal.Refusal.the-variants.{TooManyBytes, TooManyRecords}
 use Rattle.state.specs.Limits.{commandLimit, recordLimit, heldLimit, transferLimit, windowLimit, storeSize}
-use Rattle.state.specs.Records.{held, place, span, addresses, total, countFresh, fresh, joined}
+use Rattle.state.specs.Records.{held, place, span, addresses, total, countFresh, fresh, replayed, joined}
 use Rattle.state.specs.State.{CommandState, State, commandOf, recordsIn, recordsOf, isOpen, open-with, withCommand, ascending, holds, hasShape}
 use Rattle.state.specs.Refusals.{number}
 use Rattle.state.specs.Verdict.{Reply, refused, replied, accepted, verdict}
 use Rattle.state.specs.Join.{Join, join, Room, Judged, Joined, replaced}
 use Rattle.state.proofs.Verdict.{none-applies, verdict-passes, verdict-bars, verdict-stops, verdict-goes-on, verdict-gives}
 use Rattle.state.proofs.Laws.{held-joined, ascending-joined, total-joined, length-addresses, place-below, at-place, fresh-by-place, total-append}
-use Rattle.state.proofs.Places.{map-read, place-along}
+use Rattle.state.proofs.Places.{map-read, place-along, counts-fill}
 use Rattle.state.proofs.Cut.{cut-wider}
 use Rattle.state.proofs.Join.{join-judged, join-joined}
 use Rattle.state.proofs.Commands.{Kept, each-holds, kept, command-kept, open-with-own}
@@ -85,6 +85,11 @@ module _ (s : State) (storeLen windowLen destLen c a n : ℕ) (e : accepted (ver
     taken few =
         verdict-passes _ _ _ (admitChecks s storeLen windowLen destLen c a n) e
         ∙ sym (verdict-goes-on _ _ _ _ (le-ltb _ _ room) (verdict-goes-on _ _ _ _ (le-ltb _ _ few) (verdict-gives refl)))
+        ∙ ap (λ (k : ℕ). replied (fresh (recordsOf s c) a n ∷ k ∷ [])) rest
+      where
+        -- the code gives what is left of the span, which is as many as are in a record
+        rest : replayed (recordsOf s c) a n ≡ n - fresh (recordsOf s c) a n
+        rest = omega (arith, counts-fill (recordsOf s c) a n)
 
 module _ (s : State) (store window dest : List ℕ) (c a n : ℕ) where
   abbrev says : Reply

@@ -11,7 +11,7 @@ use borrow.Author.Tests.{eqb-true, eqb-false, eq-eqb, ne-eqb}
 use Rattle.octets.proofs.Lists.{getD-same}
 use Rattle.state.specs.declared.Record.{Record}
 use Rattle.state.specs.Limits.{commandLimit}
-use Rattle.state.specs.Records.{held, span, total, countFresh}
+use Rattle.state.specs.Records.{held, span, total, countFresh, countHeld}
 use Rattle.state.specs.State.{CommandState, commandOf, recordsIn, withCommand, open-with, closed}
 use Rattle.state.specs.Verdict.{accepted}
 use Rattle.state.proofs.Laws.{total-joined}
@@ -21,7 +21,7 @@ use Rattle.cache.proofs.Accepted.{ended-open, ended-reply, fetched, fetched-rep
 use Rattle.cache.specs.Runs.{Call, begin, fetch, end, hostWrite, ownWrite, show, Machine, start, says, after, along}
 use Rattle.history.specs.Journal.{Event, event, told, deedOf}
 use Rattle.history.specs.Firsts.{Value, Memory, memory, firstsAmong}
-use Rattle.history.specs.Counts.{countsIn, countsReplied, countsBy, countsOwed, bytesIn, bytesReplied, add, freshSince, sumBy, sumOwed}
+use Rattle.history.specs.Counts.{countsIn, countsReplied, countKnown, countsBy, countsOwed, bytesIn, bytesReplied, add, freshSince, sumBy, sumOwed}
 use Rattle.history.specs.Claims.{CountsTie, EndSum}
 use Rattle.history.proofs.Replaced.{replaced, Fits}
 use Rattle.history.proofs.Effects.{refused-same, old, grown, packed, zeros, begin-after, end-after, fetch-after, begin-fits, end-fits, packed-fits}
@@ -40,6 +40,15 @@ module _ (rs : List Record) (location : ℕ → ℕ) (store window : List ℕ) (
       go true h ih = rw (h, same x, h) ih
       go false h ih = rw (h, same x, h) (ap suc ih)
 
+  count-known : (xs : List ℕ) → countHeld rs xs ≡ countKnown known xs
+  unfolding countHeld countKnown
+  count-known [] = refl
+  count-known (x ∷ xs) = go (held rs x) refl (count-known xs)
+    where
+      go : (b : Bool) → held rs x ≡ b → countHeld rs xs ≡ countKnown known xs → countHeld rs (x ∷ xs) ≡ countKnown known (x ∷ xs)
+      go true h ih = rw (h, same x, h) (ap suc ih)
+      go false h ih = rw (h, same x, h) ih
+
 counts-here : (m : Machine) (mem : Memory) (p : Call) (b : Bool) → accepted (says m p) ≡ b → Sound m mem
     → countsIn (says m p) (deedOf b p) ≡ countsBy mem (deedOf b p)
 unfolding countsBy
@@ -47,8 +56,12 @@ counts-here m mem p false e S = refl
 counts-here m mem (begin c) true e S = refl
 counts-here m mem (fetch c a n dest window) true e S =
     let F = fetched (m .state) (length (m .store)) (length window) (length dest) c a n e in
-    let same = count-firsts (old m c) (location (m .state) c) (m .store) window (mem c) (λ x. S .known c x (F .opened)) (span a n) in
-    rw (fetched-reply (m .state) (length (m .store)) (length window) (length dest) c a n e, same)
+    let same : (x : ℕ) → mem c x ≡ stored (old m c) (location (m .state) c) (m .store) x = λ x. S .known c x (F .opened) in
+    rw (
+      fetched-reply (m .state) (length (m .store)) (length window) (length dest) c a n e,
+      count-firsts (old m c) (location (m .state) c) (m .store) window (mem c) same (span a n),
+      count-known (old m c) (location (m .state) c) (m .store) window (mem c) same (span a n),
+    )
 counts-here m mem (end c) true e S = refl
 counts-here m mem (hostWrite a bytes window) true e S = refl
 counts-here m mem (ownWrite c a bytes window) true e S = refl

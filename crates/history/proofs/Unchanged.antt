@@ -7,7 +7,7 @@ use mathlib.Core.Bool.{Bool, true, false, false≢true}
 use lib.ListN.{length}
 use Rattle.octets.specs.Lists.{overwrite}
 use Rattle.octets.proofs.Overwrite.{overwrite-none}
-use Rattle.state.specs.Records.{span, countFresh, joined}
+use Rattle.state.specs.Records.{span, countFresh, countHeld, joined}
 use Rattle.state.specs.State.{hasShape}
 use Rattle.state.specs.Verdict.{accepted}
 use Rattle.state.proofs.Commands.{kept, command-kept, open-with-own}
@@ -68,7 +68,7 @@ module _ (m : Machine) (c a : ℕ) (dest window : List ℕ) (shape : hasShape (m
       ∙ (λ i. record { state = command-kept (m .state) c _ (open-with-own (m .state) c shape (F .whole) (F .opened)) i; store = packed-same i })
 
 pub empty-fetch : EmptyFetch
-unfolding span countFresh
+unfolding span countFresh countHeld
 empty-fetch words store c a dest window = go (accepted (says m (fetch c a 0 dest window))) refl
   where
     m : Machine

@@ -9,7 +9,7 @@ use mathlib.Core.Logic.{_≢_}
 use lib.ListN.{getD, replicate}
 use Rattle.octets.specs.Lists.{all}
 use Rattle.state.specs.declared.Record.{Record}
-use Rattle.state.specs.Records.{held, span, addresses, total, place, countFresh, keep, lowest, highest, joined}
+use Rattle.state.specs.Records.{held, span, addresses, total, place, countFresh, countHeld, keep, lowest, highest, joined}
 use Rattle.state.specs.State.{recordsOf, isOpen, ascending, commandHolds, holds}
 use Rattle.state.specs.Verdict.{verdict, accepted}
 use Rattle.state.proofs.Runs.{runs-are-runs}
@@ -41,7 +41,7 @@ retire checked written =
 
 -- Overwritten by 40, or by 4 again: the first fetches are the same, so the firmware gets the same bytes.
 same-firsts : told firsts [] (journal store (retire 4 40)) ≡ told firsts [] (journal store (retire 4 4))
-unfolding store retire told along beginSays beginState beginStore fetchSays fetchState fetchStore hostSays verdict accepted all ascending commandHolds holds total held span countFresh keep lowest highest joined addresses place remember memory firstsAmong firstsBy
+unfolding store retire told along beginSays beginState beginStore fetchSays fetchState fetchStore hostSays verdict accepted all ascending commandHolds holds total held span countFresh countHeld keep lowest highest joined addresses place remember memory firstsAmong firstsBy
 same-firsts = refl
 
 same-delivered : along delivers (start store) (retire 4 40) ≡ along delivers (start store) (retire 4 4)
@@ -55,7 +55,7 @@ delivered-bytes = refl
 
 -- A count of 5 at the first fetch is another first fetch, so what is delivered differs.
 other-firsts : told firsts [] (journal store (retire 4 40)) ≢ told firsts [] (journal store (retire 5 40))
-unfolding store retire told along beginSays beginState beginStore fetchSays fetchState fetchStore hostSays verdict accepted all ascending commandHolds holds total held span countFresh keep lowest highest joined addresses place remember memory firstsAmong firstsBy
+unfolding store retire told along beginSays beginState beginStore fetchSays fetchState fetchStore hostSays verdict accepted all ascending commandHolds holds total held span countFresh countHeld keep lowest highest joined addresses place remember memory firstsAmong firstsBy
 other-firsts e = let counts : _≡_ {A = ℕ} 4 5 = ap (λ (l : List (List First)). getD (getD l 1 []) 0 (record { address = 0; value = 0 }) .value) e in omega arith
 
 other-delivered : along delivers (start store) (retire 4 40) ≢ along delivers (start store) (retire 5 40)

@@ -9,7 +9,7 @@ use mathlib.Core.Logic.{_≢_}
 use mathlib.Core.Bool.{true, false, not}
 use lib.ListN.{replicate}
 use Rattle.octets.specs.Lists.{all}
-use Rattle.state.specs.Records.{held, span, addresses, total, place, countFresh, keep, lowest, highest, joined}
+use Rattle.state.specs.Records.{held, span, addresses, total, place, countFresh, countHeld, keep, lowest, highest, joined}
 use Rattle.state.specs.State.{ascending, commandHolds, holds}
 use Rattle.state.specs.Verdict.{Reply, refused, replied, verdict, accepted}
 use Rattle.cache.specs.Begin.{beginSays, beginState, beginStore}
@@ -18,7 +18,7 @@ use Rattle.cache.specs.End.{endSays, endState, endStore}
 use Rattle.cache.specs.Runs.{Call, begin, fetch, end, hostWrite, start, along, delivers}
 use Rattle.history.specs.Journal.{Event, journal, told, deed}
 use Rattle.history.specs.Firsts.{remember, memory, First, firstsAmong, firstsBy, firsts, owedBy, owed}
-use Rattle.history.specs.Counts.{countsBy, countsOwed, add, freshSince, sumOwed}
+use Rattle.history.specs.Counts.{countKnown, countsBy, countsOwed, add, freshSince, sumOwed}
 use Rattle.history.specs.Claims.{renews, mayChange, common}
 
 abbrev dest : List ℕ
@@ -48,7 +48,7 @@ calls : List Call
 calls = map (λ e. e .call) run
 
 is-run : journal (replicate 32768 3) calls ≡ run
-unfolding run calls along beginSays beginState beginStore fetchSays fetchState fetchStore endSays endState endStore verdict accepted all ascending commandHolds holds total held span countFresh keep lowest highest joined addresses place
+unfolding run calls along beginSays beginState beginStore fetchSays fetchState fetchStore endSays endState endStore verdict accepted all ascending commandHolds holds total held span countFresh countHeld keep lowest highest joined addresses place
 is-run = refl
 
 abbrev _↦↦_ : ℕ → ℕ → First
@@ -72,7 +72,7 @@ bytes-delivered = refl
 
 counts-owed : told countsOwed [] run
     ≡ [] ∷ [] ∷ (2 ∷ 0 ∷ []) ∷ (1 ∷ 0 ∷ []) ∷ (1 ∷ 2 ∷ []) ∷ [] ∷ [] ∷ [] ∷ [] ∷ [] ∷ (1 ∷ 0 ∷ []) ∷ [] ∷ []
-unfolding run told remember memory firstsAmong countsBy accepted span
+unfolding run told remember memory firstsAmong countKnown countsBy accepted span
 counts-owed = refl
 
 sums-owed : told sumOwed [] run ≡ [] ∷ [] ∷ [] ∷ [] ∷ [] ∷ [] ∷ [] ∷ [] ∷ (3 ∷ []) ∷ [] ∷ [] ∷ (1 ∷ []) ∷ []

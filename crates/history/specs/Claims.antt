@@ -26,7 +26,7 @@ use Rattle.history.specs.Counts.{countsReplied, countsOwed, bytesReplied
 abbrev pub DeliveryRule : Type 0
 DeliveryRule = (store : List ℕ) (ps : List Call) → along delivers (start store) ps ≡ told owed [] (journal store ps)
 
--- Fresh is the number of first fetches at each accepted fetch, and replayed the rest.
+-- Fresh is the number of first fetches at each accepted fetch, and replayed that of the addresses fetched before.
 abbrev pub CountsTie : Type 0
 CountsTie = (store : List ℕ) (ps : List Call) → told countsReplied [] (journal store ps) ≡ told countsOwed [] (journal store ps)
 

@@ -1,5 +1,5 @@
 -- The counts of a reply, and what they are by the first fetches, told from the journal.
-use Prim.Native.Nat.{ℕ, _+_, _-_}
+use Prim.Native.Nat.{ℕ, suc, _+_}
 use mathlib.Core.List.{List, [], _∷_}
 use mathlib.Core.Bool.{cond}
 use lib.Dec.{eqb}
@@ -7,7 +7,7 @@ use lib.ListN.{length, getD, drop}
 use Rattle.state.specs.Records.{span}
 use Rattle.state.specs.Verdict.{Reply, numbersOf}
 use Rattle.history.specs.Journal.{Event, Deed, began, fetched, ended, other, deed}
-use Rattle.history.specs.Firsts.{Memory, memory, firstsAmong}
+use Rattle.history.specs.Firsts.{Value, Memory, memory, isKnown, firstsAmong}
 
 -- the two counts that an accepted fetch replied
 abbrev pub countsIn : Reply → Deed → List ℕ
@@ -19,10 +19,15 @@ countsIn r other = []
 abbrev pub countsReplied : List Event → Event → List ℕ
 countsReplied past e = countsIn (e .answer) (deed e)
 
--- fresh is the number of first fetches at this event, and replayed the rest of the span
+-- how many of these addresses are known already
+unfoldable pub countKnown : (ℕ → Value) → List ℕ → ℕ
+countKnown known [] = 0
+countKnown known (x ∷ xs) = cond (isKnown (known x)) (suc (countKnown known xs)) (countKnown known xs)
+
+-- fresh is the number of first fetches at this event, and replayed that of the span's addresses which the command has fetched before
 unfoldable pub countsBy : Memory → Deed → List ℕ
 countsBy mem (began c) = []
-countsBy mem (fetched c a n window) = let f = length (firstsAmong (mem c) window (span a n)) in f ∷ (n - f) ∷ []
+countsBy mem (fetched c a n window) = length (firstsAmong (mem c) window (span a n)) ∷ countKnown (mem c) (span a n) ∷ []
 countsBy mem (ended c) = []
 countsBy mem other = []
 

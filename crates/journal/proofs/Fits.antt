@@ -9,10 +9,11 @@ use lib.ListN.{length, take, length-take}
 use borrow.Author.Tests.{ltb-true, ltb-false}
 use Rattle.octets.specs.Lists.{all}
 use Rattle.octets.proofs.Lists.{and-left, and-right}
-use Rattle.state.specs.State.{State, commandOf}
+use Rattle.state.specs.State.{State, commandOf, recordsOf}
 use Rattle.state.specs.Verdict.{replied, accepted, Check, verdict}
 use Rattle.state.proofs.Verdict.{none-applies}
 use Rattle.state.proofs.Commands.{kept}
+use Rattle.state.proofs.Places.{counts-fill}
 use Rattle.frames.specs.declared.Step.{Step}
 use Rattle.frames.specs.declared.Step.the-variants.{Begin, Fetch, End, HostWrite, OwnWrite}
 use Rattle.frames.specs.Read.{fieldsSay, readSays, dataOf}
@@ -54,7 +55,7 @@ says-short m (Fetch c a n) bytes dest window =
     verdict-short _ _ refl (λ e.
     let F = fetched (m .state) (length (m .store)) (length window) (length dest) c a n e in
     let few = fetched-size (m .state) (length (m .store)) (length window) (length dest) c a n e in
-    two (omega (arith, F .room)) (omega (arith, few)))
+    two (omega (arith, F .room)) (omega (arith, few, counts-fill (recordsOf (m .state) c) a n)))
 says-short m (End c) bytes dest window =
     verdict-short _ _ refl (λ e.
     let p = commandOf (m .state) c in

@@ -10,7 +10,7 @@ use Rattle.journal.specs.Run.{entriesIn, entries, freshDevice, logFrom}
 use Rattle.journal.specs.Readings.{Reading, readingsIn, readings, butHostBytes}
 use Rattle.device.specs.Frame.{stepOf, frameSays, frameLeaves, frameDelivers}
 use Rattle.octets.specs.Lists.{all}
-use Rattle.state.specs.Records.{held, span, addresses, total, place, countFresh, keep, lowest, highest, joined}
+use Rattle.state.specs.Records.{held, span, addresses, total, place, countFresh, countHeld, keep, lowest, highest, joined}
 use Rattle.state.specs.State.{ascending, commandHolds, holds}
 use Rattle.state.specs.Verdict.{refused, accepted, verdict}
 use Rattle.cache.specs.Begin.{beginSays, beginState, beginStore}
@@ -34,7 +34,7 @@ worked :
     ≡ ascii "1 B ok\n2 H ok 4\n3 F ok 4 0 61626364\n4 H ok 2\n5 F ok 4 4 0000616263640000\n6 E ok 1 8\n7 F no 21\n"
 unfolding logFrom entriesIn stepOf frameSays frameLeaves frameDelivers lineOf deliveredFields answerFields spaced digits decimal hexDigit hexadecimal
     readSays fieldsSay fieldsOf dataSize notZero zeroBroken verdict accepted beginSays beginState beginStore fetchSays fetchState fetchStore fetchDest
-    endSays endState endStore hostSays hostWindow all ascending commandHolds holds total held span addresses place countFresh keep lowest highest
+    endSays endState endStore hostSays hostWindow all ascending commandHolds holds total held span addresses place countFresh countHeld keep lowest highest
     joined
 worked = refl
 

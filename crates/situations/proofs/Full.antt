@@ -11,7 +11,7 @@ use borrow.Author.Tests.{eq-eqb}
 use Rattle.octets.specs.Lists.{all}
 use Rattle.octets.proofs.Lists.{both}
 use Rattle.state.specs.declared.Record.{Record}
-use Rattle.state.specs.Records.{held, span, total, countFresh, keep, lowest, highest, joined}
+use Rattle.state.specs.Records.{held, span, total, countFresh, countHeld, keep, lowest, highest, joined}
 use Rattle.state.specs.State.{State, freshState, open-with, withCommand, recordsOf, ascending, commandHolds, holds}
 use Rattle.state.specs.Verdict.{Reply, refused, replied, accepted, verdict}
 use Rattle.state.proofs.Places.{map-read}
@@ -72,19 +72,19 @@ said s a n = fetchSays s 32768 (length window) (length dest) 0 a n
 
 -- the three answers of the situation
 three-answers : (answer empty 0 4096 ≡ replied (4096 ∷ 0 ∷ [])) × (answer full 4096 1 ≡ refused 23) × (answer full 0 4096 ≡ replied (0 ∷ 4096 ∷ []))
-unfolding window bytesOf dest fetchSays accepted verdict all ascending commandHolds holds total held span countFresh keep lowest highest joined
+unfolding window bytesOf dest fetchSays accepted verdict all ascending commandHolds holds total held span countFresh countHeld keep lowest highest joined
 three-answers = (refl, refl, refl)
 
 three-said : (accepted (said empty 0 4096) ≡ true) × (accepted (said full 4096 1) ≡ false) × (accepted (said full 0 4096) ≡ true)
-unfolding window bytesOf dest fetchSays accepted verdict all ascending commandHolds holds total held span countFresh keep lowest highest joined
+unfolding window bytesOf dest fetchSays accepted verdict all ascending commandHolds holds total held span countFresh countHeld keep lowest highest joined
 three-said = (refl, refl, refl)
 
 fill-next : fetchLeaves empty 32768 (length window) (length dest) 0 0 4096 ≡ full
-unfolding window bytesOf dest fetchState fetchSays accepted verdict all ascending commandHolds holds total held span countFresh keep lowest highest joined
+unfolding window bytesOf dest fetchState fetchSays accepted verdict all ascending commandHolds holds total held span countFresh countHeld keep lowest highest joined
 fill-next = refl
 
 again-next : fetchLeaves full 32768 (length window) (length dest) 0 0 4096 ≡ full
-unfolding window bytesOf dest fetchState fetchSays accepted verdict all ascending commandHolds holds total held span countFresh keep lowest highest joined
+unfolding window bytesOf dest fetchState fetchSays accepted verdict all ascending commandHolds holds total held span countFresh countHeld keep lowest highest joined
 again-next = refl
 
 module _ (m : Machine) (s : State) (is : m .state ≡ s) (size : length (m .store) ≡ 32768) where

@@ -8,8 +8,9 @@ use native.Mathlib.Nat.{add-zero, add-suc, zero-add, suc-add, not-suc-le-zero}
 use lib.ListN.{length, take, drop, getD}
 use lib.Seq.{drop-cons}
 use Rattle.state.specs.declared.Record.{Record}
-use Rattle.state.specs.Records.{past, held, span, total, place, countFresh, fresh}
+use Rattle.state.specs.Records.{past, held, span, total, place, countFresh, fresh, countHeld}
 use Rattle.state.specs.State.{ascending}
+use Rattle.state.specs.Claims.{CountsFill}
 use Rattle.state.proofs.Cases.{Lies, over, within, beneath, lies, Ascends, ascends, inside, below, above}
 
 -- behind a record all of it counts
@@ -57,6 +58,17 @@ place-suc lo (r ∷ rs) x up = let u = ascends lo r rs up in go u (place-suc (su
         rw (inside r x (omega arith) k) (omega (arith, place-low _ rs (suc x) (u .rest) (omega arith), place-low _ rs x (u .rest) (omega arith)))
     go u ih (beneath h) = rw (below r x h) (omega arith)
 
+-- an address is in a record or in none
+count-all : (rs : List Record) (xs : List ℕ) → countFresh rs xs + countHeld rs xs ≡ length xs
+unfolding countFresh countHeld
+count-all rs [] = refl
+count-all rs (x ∷ xs) = go (held rs x) (count-all rs xs)
+  where
+    go : (b : Bool) → countFresh rs xs + countHeld rs xs ≡ length xs
+        → cond b (countFresh rs xs) (suc (countFresh rs xs)) + cond b (suc (countHeld rs xs)) (countHeld rs xs) ≡ suc (length xs)
+    go true ih = omega arith
+    go false ih = omega arith
+
 -- so the fresh addresses and the held ones of a span make up the span
 pub fresh-place : (lo : ℕ) (rs : List Record) (a n : ℕ) → ascending lo rs ≡ true → fresh rs a n + place rs (a + n) ≡ n + place rs a
 unfolding span countFresh
@@ -78,6 +90,9 @@ pub length-span : (a n : ℕ) → length (span a n) ≡ n
 unfolding span
 length-span a zero = refl
 length-span a (suc n) = ap suc (length-span (suc a) n)
+
+pub counts-fill : CountsFill
+counts-fill rs a n = count-all rs (span a n) ∙ length-span a n
 
 pub span-append : (a m n : ℕ) → span a (m + n) ≡ span a m ++ span (a + m) n
 unfolding span

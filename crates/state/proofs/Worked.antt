@@ -5,7 +5,7 @@ use mathlib.Core.Path.{_≡_, refl}
 use mathlib.Core.List.{[], _∷_}
 use mathlib.Core.Bool.{true, false}
 use Rattle.state.specs.declared.Record.{Record}
-use Rattle.state.specs.Records.{held, span, addresses, total, place, countFresh, fresh, keep, lowest, highest, joined}
+use Rattle.state.specs.Records.{held, span, addresses, total, place, countFresh, fresh, countHeld, replayed, keep, lowest, highest, joined}
 use Rattle.state.specs.State.{ascending}
 use Rattle.state.specs.Runs.{inFront, runsFrom}
 
@@ -48,6 +48,10 @@ no-length = refl
 two-fresh : fresh (4 at 16 ∷ []) 15 6 ≡ 2
 unfolding countFresh span held
 two-fresh = refl
+
+four-replayed : replayed (4 at 16 ∷ []) 15 6 ≡ 4
+unfolding countHeld span held
+four-replayed = refl
 
 packed-order : addresses (2 at 10 ∷ 3 at 20 ∷ []) ≡ 10 ∷ 11 ∷ 20 ∷ 21 ∷ 22 ∷ []
 unfolding addresses span

@@ -1,13 +1,17 @@
 -- The claims about records (request F-1 of 02, the agreed changes; docs/RULES.md has its rule).
-use Prim.Native.Nat.{ℕ, _<_}
+use Prim.Native.Nat.{ℕ, _+_, _<_}
 use mathlib.Core.Path.{_≡_}
 use mathlib.Core.List.{List, _∷_, _++_}
 use mathlib.Core.Bool.{Bool, true, false, _||_}
 use Rattle.state.specs.declared.Record.{Record}
 use Rattle.state.specs.Limits.{windowLimit}
-use Rattle.state.specs.Records.{past, held, shares, touches, meets}
+use Rattle.state.specs.Records.{past, held, fresh, replayed, shares, touches, meets}
 use Rattle.state.specs.State.{State, recordsOf, ascending, holds}
 use Rattle.state.specs.Runs.{runs}
+
+-- The two counts of a span are told apart, each by its own addresses, and leave none out.
+abbrev pub CountsFill : Type 0
+CountsFill = (rs : List Record) (a n : ℕ) → fresh rs a n + replayed rs a n ≡ n
 
 -- The one test by which a span meets a record is F-1's two: they share a byte, or touch. (`joined` asks it of a span of a byte or more.)
 abbrev pub MeetsWords : Type 0

@@ -48,6 +48,15 @@ countFresh rs (x ∷ xs) = cond (held rs x) (countFresh rs xs) (suc (countFresh 
 abbrev pub fresh : List Record → ℕ → ℕ → ℕ
 fresh rs a n = countFresh rs (span a n)
 
+-- how many of the listed addresses are in a record
+unfoldable pub countHeld : List Record → List ℕ → ℕ
+countHeld rs [] = 0
+countHeld rs (x ∷ xs) = cond (held rs x) (suc (countHeld rs xs)) (countHeld rs xs)
+
+-- 01's replayed count of a span
+abbrev pub replayed : List Record → ℕ → ℕ → ℕ
+replayed rs a n = countHeld rs (span a n)
+
 unfoldable pub keep : (Record → Bool) → List Record → List Record
 keep p [] = []
 keep p (r ∷ rs) = cond (p r) (r ∷ keep p rs) (keep p rs)
