@@ -1,4 +1,5 @@
 pub mod Accepted
 pub mod Tests
 pub mod Order
+pub mod Unchanged
 pub mod Claims

@@ -1,9 +1,9 @@
--- The claims about single calls: what show gives of a command, and what begin and end leave of its part of the store (01, the agreed
--- scope, "The calls"; docs/RULES.md has its rules).
+-- The claims about single calls: what show gives of a command, what begin and end leave of its part of the store, and that a refused call
+-- changes nothing (01, the agreed scope, "The calls"; docs/RULES.md has its rules).
 use Prim.Native.Nat.{ℕ, _≤_, _<_}
 use mathlib.Core.Path.{_≡_}
 use mathlib.Core.List.{List, [], _∷_, map}
-use mathlib.Core.Bool.{true}
+use mathlib.Core.Bool.{true, false}
 use lib.ListN.{length, replicate}
 use Rattle.octets.specs.Lists.{part}
 use Rattle.state.specs.declared.Record.{Record}
@@ -15,6 +15,7 @@ use Rattle.store.specs.Store.{partStart}
 use Rattle.cache.specs.Begin.{beginSays, beginStore}
 use Rattle.cache.specs.End.{endSays, endStore}
 use Rattle.cache.specs.Show.{showSays}
+use Rattle.cache.specs.Runs.{Call, Machine, says, after, destGiven, destAfter, windowGiven, windowAfter}
 
 -- a record as show replies it: its start and length
 abbrev pub recordReply : Record → Reply
@@ -36,3 +37,13 @@ pub record Zeroed (s : State) (store : List ℕ) (c : ℕ) : Type 0 where
 
 abbrev pub PartsZeroed : Type 0
 PartsZeroed = (s : State) (store : List ℕ) (c : ℕ) → Zeroed s store c
+
+-- what a call leaves as it was given
+pub record Unchanged (m : Machine) (p : Call) : Type 0 where
+  pub machine : after m p ≡ m
+  pub dest : destAfter m p ≡ destGiven p
+  pub window : windowAfter m p ≡ windowGiven p
+
+-- 01's rule on refusals: whatever was lent is as it was given.
+abbrev pub RefusedUnchanged : Type 0
+RefusedUnchanged = (m : Machine) (p : Call) → accepted (says m p) ≡ false → Unchanged m p

@@ -5,5 +5,5 @@ pub mod HostWrite
 pub mod OwnWrite
 pub mod Show
 pub mod Order
-pub mod Claims
 pub mod Runs
+pub mod Claims

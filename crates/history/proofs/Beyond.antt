@@ -17,9 +17,9 @@ use Rattle.store.specs.Store.{partStart, location, byteAt, sees}
 use Rattle.cache.specs.Fetch.{fetchDest}
 use Rattle.cache.proofs.Accepted.{Fetched, fetched}
 use Rattle.cache.specs.Runs.{fetch, Machine, says, stateAfter, storeAfter, destAfter}
+use Rattle.cache.proofs.Unchanged.{refused-same, refused-unchanged}
 use Rattle.history.specs.Claims.{given, Beyond, BeyondUnchanged}
-use Rattle.history.proofs.Effects.{refused-same, old, grown, packed, fetch-after, packed-fits, length-packed}
-use Rattle.history.proofs.Unchanged.{refused-unchanged}
+use Rattle.history.proofs.Effects.{old, grown, packed, fetch-after, packed-fits, length-packed}
 
 module _ (m : Machine) (c a n : ℕ) (dest window : List ℕ) (shape : hasShape (m .state) ≡ true) (e : accepted (says m (fetch c a n dest window)) ≡ true) where
   F : Fetched (m .state) (length (m .store)) (length window) (length dest) c a n

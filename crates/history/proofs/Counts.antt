@@ -19,12 +19,13 @@ use Rattle.state.proofs.Commands.{command-same, command-other, records-open-wit
 use Rattle.store.specs.Store.{location}
 use Rattle.cache.proofs.Accepted.{ended-open, ended-reply, fetched, fetched-reply}
 use Rattle.cache.specs.Runs.{Call, begin, fetch, end, hostWrite, ownWrite, show, Machine, start, says, after, along}
+use Rattle.cache.proofs.Unchanged.{refused-same}
 use Rattle.history.specs.Journal.{Event, event, told, deedOf}
 use Rattle.history.specs.Firsts.{Value, Memory, memory, isKnown, firstsAmong}
 use Rattle.history.specs.Counts.{countsIn, countsReplied, count, countsBy, countsOwed, bytesIn, bytesReplied, add, freshSince, sumBy, sumOwed}
 use Rattle.history.specs.Claims.{CountsTie, EndSum}
 use Rattle.history.proofs.Replaced.{replaced, Fits}
-use Rattle.history.proofs.Effects.{refused-same, old, grown, packed, zeros, begin-after, end-after, fetch-after, begin-fits, end-fits, packed-fits}
+use Rattle.history.proofs.Effects.{old, grown, packed, zeros, begin-after, end-after, fetch-after, begin-fits, end-fits, packed-fits}
 use Rattle.history.proofs.Sound.{stored, Sound, sound-start, sound-after}
 
 -- Fresh is the number of first fetches: an address is in no record exactly if the memory has none.

@@ -19,17 +19,9 @@ use Rattle.cache.specs.Fetch.{fetchState, fetchStore}
 use Rattle.cache.specs.End.{endState, endStore}
 use Rattle.cache.proofs.Accepted.{Ready, begun, ended, Fetched, fetched}
 use Rattle.cache.specs.Runs.{Call, begin, fetch, end, hostWrite, ownWrite, show, Machine, says, storeAfter, after}
+use Rattle.cache.proofs.Unchanged.{refused-same}
 use Rattle.history.specs.Claims.{mayChange}
 use Rattle.history.proofs.Replaced.{replaced, Fits, length-replaced}
-
-pub refused-same : (m : Machine) (p : Call) → accepted (says m p) ≡ false → after m p ≡ m
-unfolding beginState beginStore fetchState fetchStore endState endStore
-refused-same m (begin c) e = rw e
-refused-same m (fetch c a n dest window) e = rw e
-refused-same m (end c) e = rw e
-refused-same m (hostWrite a bytes window) e = refl
-refused-same m (ownWrite c a bytes window) e = refl
-refused-same m (show c i) e = refl
 
 -- a command's records before and after a fetch, and the bytes that it then holds
 abbrev pub old : Machine → ℕ → List Record

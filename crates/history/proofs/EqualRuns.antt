@@ -14,10 +14,11 @@ use Rattle.state.proofs.Laws.{held-joined, map-held}
 use Rattle.store.specs.Store.{partStart, location, byteAt, sees}
 use Rattle.cache.proofs.Accepted.{fetched}
 use Rattle.cache.specs.Runs.{Call, fetch, Machine, start, along, says, stateAfter, storeAfter, after}
+use Rattle.cache.proofs.Unchanged.{refused-same}
 use Rattle.history.specs.Journal.{Deed, deedOf}
 use Rattle.history.specs.Firsts.{none, Memory, remember, memory, firstsBy, recall, owedBy}
 use Rattle.history.specs.Claims.{common, blankDest, commonLengths, EqualRunsRule, EqualRunsLengths}
-use Rattle.history.proofs.Effects.{refused-same, old, grown, packed, fetch-after, length-after}
+use Rattle.history.proofs.Effects.{old, grown, packed, fetch-after, length-after}
 use Rattle.history.proofs.Sound.{Sound, sound-start, sound-after}
 use Rattle.history.proofs.Memories.{alongMemory, told-memory}
 use Rattle.history.proofs.Delivery.{delivery}

@@ -3,7 +3,7 @@ pub mod Replaced
 pub mod Effects
 pub mod Isolation
 pub mod Invariant
-pub mod Unchanged
+pub mod Empty
 pub mod Beyond
 pub mod Sound
 pub mod Memories

@@ -21,10 +21,11 @@ use Rattle.state.proofs.Commands.{command-same, command-other, records-open-wit
 use Rattle.store.specs.Store.{partStart, location, byteAt, sees}
 use Rattle.cache.proofs.Accepted.{Fetched, fetched}
 use Rattle.cache.specs.Runs.{Call, begin, fetch, end, hostWrite, ownWrite, show, Machine, start, says, after, along, ran}
+use Rattle.cache.proofs.Unchanged.{refused-same}
 use Rattle.history.specs.Journal.{Event, event, backwards, deedOf}
 use Rattle.history.specs.Firsts.{Value, none, first, orElse, Memory, remember, memory}
 use Rattle.history.proofs.Replaced.{replaced, Fits, byte-other, length-replaced}
-use Rattle.history.proofs.Effects.{refused-same, old, grown, packed, zeros, begin-after, end-after, fetch-after, begin-fits, end-fits, packed-fits}
+use Rattle.history.proofs.Effects.{old, grown, packed, zeros, begin-after, end-after, fetch-after, begin-fits, end-fits, packed-fits}
 use Rattle.history.proofs.Effects.{length-packed, ascending-grown, total-grown}
 use Rattle.history.proofs.Invariant.{Whole, whole-start, whole-replaced}
 

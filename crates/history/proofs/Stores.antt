@@ -28,12 +28,13 @@ use Rattle.store.specs.Store.{partStart}
 use Rattle.store.proofs.Parts.{packed-part}
 use Rattle.cache.proofs.Accepted.{Fetched, fetched}
 use Rattle.cache.specs.Runs.{Call, begin, fetch, end, hostWrite, ownWrite, show, Machine, start, says, after, along, ran}
+use Rattle.cache.proofs.Unchanged.{refused-same}
 use Rattle.history.specs.Journal.{Event, event, journal, backwards, deedOf}
 use Rattle.history.specs.Firsts.{Value, none, first, Memory, remember, memory, isKnown, recall}
 use Rattle.history.specs.Stores.{Phase, unbegun, running, finished, phaseBy, phase, ifAny, heldOwed, partBy, partOwed}
 use Rattle.history.specs.Claims.{partIn, StoreTold}
 use Rattle.history.proofs.Replaced.{replaced, Fits, length-replaced, part-other}
-use Rattle.history.proofs.Effects.{refused-same, old, grown, packed, zeros, begin-after, end-after, fetch-after}
+use Rattle.history.proofs.Effects.{old, grown, packed, zeros, begin-after, end-after, fetch-after}
 use Rattle.history.proofs.Effects.{begin-fits, end-fits, packed-fits, length-packed, total-grown}
 use Rattle.history.proofs.Sound.{Sound, sound-start, sound-after}
 use Rattle.history.proofs.Stored.{K, held-known, part-fits, part-known}

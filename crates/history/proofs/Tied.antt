@@ -14,12 +14,13 @@ use Rattle.state.specs.Verdict.{accepted}
 use Rattle.state.proofs.Commands.{command-same, command-other, eight}
 use Rattle.cache.proofs.Accepted.{fetched}
 use Rattle.cache.specs.Runs.{Call, begin, fetch, end, hostWrite, ownWrite, show, Machine, start, says, after, along, ran}
+use Rattle.cache.proofs.Unchanged.{refused-same}
 use Rattle.history.specs.Journal.{Event, event, backwards, deedOf}
 use Rattle.history.specs.Firsts.{memory}
 use Rattle.history.specs.Counts.{freshSince}
 use Rattle.history.specs.Stores.{Phase, running, finished, phaseBy, phase}
 use Rattle.history.specs.Answers.{isRunning, openSince, OpenTold}
-use Rattle.history.proofs.Effects.{refused-same, grown, begin-after, end-after, fetch-after, begin-fits, end-fits, length-after}
+use Rattle.history.proofs.Effects.{grown, begin-after, end-after, fetch-after, begin-fits, end-fits, length-after}
 use Rattle.history.proofs.Invariant.{Whole}
 use Rattle.history.proofs.Sound.{Sound, sound-start, sound-after}
 use Rattle.history.proofs.Counts.{Summed, summed-start, summed-after}

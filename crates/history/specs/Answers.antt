@@ -139,7 +139,7 @@ spare past c = heldLimit - fetchedCount past c
 -- The order's question what is spare, and how two counts of it meet. One counts every place that a command has, 4,096; the other counts the
 -- places that are not handed out yet. They differ by what the replies since the command's begin have handed out.
 pub record Meets (store : List ℕ) (ps : List Call) (c : ℕ) : Type 0 where
-  -- the bytes that its records hold are the addresses that it has fetched since its begin, each counted once
+  -- the bytes that its records hold are as many as the addresses that it has fetched since its begin
   pub held : total (recordsOf (ran (start store) ps .state) c) ≡ fetchedCount (eventsOf store ps) c
   -- and these are as many as the fresh counts replied to it since its begin come to
   pub handedOut : fetchedCount (eventsOf store ps) c ≡ freshSince (eventsOf store ps) c

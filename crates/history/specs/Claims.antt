@@ -15,6 +15,7 @@ use Rattle.state.specs.Runs.{runs}
 use Rattle.state.specs.State.{holds, hasShape, commandOf, recordsOf, isOpen}
 use Rattle.state.specs.Words.{stateOf}
 use Rattle.state.specs.Verdict.{refused, replied, accepted}
+use Rattle.cache.specs.Claims.{Unchanged}
 use Rattle.store.specs.Store.{partStart, location, packedBytes}
 use Rattle.cache.specs.Runs.{Call, begin, fetch, end, hostWrite, ownWrite, show, Machine, start, along, ran, says, stateAfter, storeAfter, after, destGiven}
 use Rattle.cache.specs.Runs.{destAfter, windowGiven, windowAfter, delivers}
@@ -31,7 +32,7 @@ DeliveryRule = (store : List ℕ) (ps : List Call) → along delivers (start sto
 abbrev pub CountsTie : Type 0
 CountsTie = (store : List ℕ) (ps : List Call) → told countsReplied [] (journal store ps) ≡ told countsOwed [] (journal store ps)
 
--- The byte number of each accepted end is the sum of fresh over the command's accepted fetches since its begin.
+-- The byte number of each accepted end is all that the command's accepted fetches were replied as fresh since its begin, added up.
 abbrev pub EndSum : Type 0
 EndSum = (store : List ℕ) (ps : List Call) → told bytesReplied [] (journal store ps) ≡ told sumOwed [] (journal store ps)
 
@@ -171,16 +172,6 @@ pub record Alone (m : Machine) (p : Call) (d : ℕ) : Type 0 where
 
 abbrev pub Isolation : Type 0
 Isolation = (m : Machine) (p : Call) (d : ℕ) → mayChange p d ≡ false → Alone m p d
-
--- what a call leaves as it was given
-pub record Unchanged (m : Machine) (p : Call) : Type 0 where
-  pub machine : after m p ≡ m
-  pub dest : destAfter m p ≡ destGiven p
-  pub window : windowAfter m p ≡ windowGiven p
-
--- 01's rule on refusals: whatever was lent is as it was given.
-abbrev pub RefusedUnchanged : Type 0
-RefusedUnchanged = (m : Machine) (p : Call) → accepted (says m p) ≡ false → Unchanged m p
 
 -- every state and store that a call can be given: any words, and any bytes
 abbrev pub given : (words store : List ℕ) → Machine

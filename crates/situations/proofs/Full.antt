@@ -20,7 +20,8 @@ use Rattle.cache.specs.Fetch.{fetchSays, fetchState}
 use Rattle.cache.specs.Runs.{Call, begin, fetch, Machine, start, says, after, delivers}
 use Rattle.history.specs.Journal.{fetched, deedOf}
 use Rattle.history.specs.Firsts.{none, first, Memory, remember, memory, recall, orElse, owedBy}
-use Rattle.history.proofs.Effects.{refused-same, length-after}
+use Rattle.cache.proofs.Unchanged.{refused-same}
+use Rattle.history.proofs.Effects.{length-after}
 use Rattle.history.proofs.Sound.{Sound, sound-start, sound-after}
 use Rattle.history.proofs.Delivery.{delivers-owed}
 use Rattle.situations.specs.Steps.{fetchAnswers, fetchLeaves, answers, gives, leaves, leavesWindow, sameNumbers, sameAnswer, sameRecords, asExpected}

@@ -1,6 +1,6 @@
--- The search for the records that meet a span, and the records that it leaves, as the code computes them. The laws in proofs/ say
--- what they are for records that ascend: the search finds just the records that share a byte with the span or touch it, and the rest
--- is `joined`.
+-- The search for the records that meet a span, and the records that it leaves, as the code computes them. The claims `SearchFinds` and
+-- `SearchJoins` say what they are for records that ascend: just the records that share a byte with the span or touch it are found, and what
+-- is left is `joined`.
 use Prim.Native.Nat.{ℕ, suc, _+_, _-_, _%_, _≤_, _<_, min, max}
 use mathlib.Core.Path.{_≡_}
 use mathlib.Core.List.{List, [], _∷_, _++_, map}

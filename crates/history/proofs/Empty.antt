@@ -1,4 +1,4 @@
--- A refused call, and a fetch of length 0, leave everything as it was given.
+-- A fetch of length 0 leaves everything as it was given.
 use Prim.Native.Nat.{ℕ}
 use native.Mathlib.Omega.{arith}
 use mathlib.Core.Path.{_≡_, refl, sym, _∙_}
@@ -19,29 +19,9 @@ use Rattle.cache.specs.OwnWrite.{ownWindow}
 use Rattle.store.proofs.Parts.{own-bytes}
 use Rattle.cache.proofs.Accepted.{Fetched, fetched, fetched-reply}
 use Rattle.cache.specs.Runs.{Call, begin, fetch, end, hostWrite, ownWrite, show, Machine, says, after, destGiven, destAfter, windowGiven, windowAfter}
-use Rattle.history.specs.Claims.{RefusedUnchanged, given, Empty, EmptyFetch}
-use Rattle.history.proofs.Effects.{refused-same, old, packed, fetch-after}
-
-dest-refused : (m : Machine) (p : Call) → accepted (says m p) ≡ false → destAfter m p ≡ destGiven p
-unfolding fetchDest
-dest-refused m (begin c) e = refl
-dest-refused m (fetch c a n dest window) e = rw e
-dest-refused m (end c) e = refl
-dest-refused m (hostWrite a bytes window) e = refl
-dest-refused m (ownWrite c a bytes window) e = refl
-dest-refused m (show c i) e = refl
-
-window-refused : (m : Machine) (p : Call) → accepted (says m p) ≡ false → windowAfter m p ≡ windowGiven p
-unfolding hostWindow ownWindow
-window-refused m (begin c) e = refl
-window-refused m (fetch c a n dest window) e = refl
-window-refused m (end c) e = refl
-window-refused m (hostWrite a bytes window) e = rw e
-window-refused m (ownWrite c a bytes window) e = rw e
-window-refused m (show c i) e = refl
-
-pub refused-unchanged : RefusedUnchanged
-refused-unchanged m p e = record { machine = refused-same m p e; dest = dest-refused m p e; window = window-refused m p e }
+use Rattle.history.specs.Claims.{given, Empty, EmptyFetch}
+use Rattle.cache.proofs.Unchanged.{refused-unchanged}
+use Rattle.history.proofs.Effects.{old, packed, fetch-after}
 
 -- Length 0
 
