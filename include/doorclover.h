@@ -51,9 +51,9 @@
  *
  * Stack, in bytes, arguments on it included and the return address not. It was measured on a painted
  * stack, and is not proved. What your memcpy and memset take comes on top.
- *     fresh   0      begin 104      host write  48      frame read   168
- *     show  104      fetch 504      own write  168      frame write   48
- *                    end   152                          journal     3336
+ *     fresh   0      begin 128      host write  48      frame read   168
+ *     show   88      fetch 496      own write  216      frame write   48
+ *                    end   176                          journal     3392
  * DOORCLOVER_STACK and DOORCLOVER_JOURNAL_STACK are these with some room.
  *
  * Targets: archives for x86-64, AArch64 and RISC-V 64 (rv64gc, lp64d), little-endian, ELF, by the
