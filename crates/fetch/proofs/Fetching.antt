@@ -151,7 +151,8 @@ module _ (s : State) (store window dest : List ℕ) (c a : ℕ) (shape : hasShap
       own-state same-bytes none-delivered
 
 -- A span: once it is held it lies in one record, so its bytes stand side by side.
-module _ (f : ℕ → ℕ) (rs : List Record) (store : List ℕ) (k a n : ℕ) (up : ascending 0 rs ≡ true) (low : a + n ≤ windowLimit) (fits : k + total (joined rs a n) ≤ length store) where
+module _ (f : ℕ → ℕ) (rs : List Record) (store : List ℕ) (k a n : ℕ)
+    (up : ascending 0 rs ≡ true) (low : a + n ≤ windowLimit) (fits : k + total (joined rs a n) ≤ length store) where
   abbrev rs′ : List Record
   rs′ = joined rs a n
 
@@ -189,7 +190,8 @@ module _ (f : ℕ → ℕ) (rs : List Record) (store : List ℕ) (k a n : ℕ) (
           ∙ ap (λ (j : ℕ). getD (overwrite store k bytes) j 0) there
 
 -- The code's way: what `join` gives of the command decides, and then it is held and delivered.
-module _ (s : State) (store window dest : List ℕ) (c a n : ℕ) (e : accepted (verdict (admitChecks s (length store) (length window) (length dest) c a n) (replied [])) ≡ true)
+module _ (s : State) (store window dest : List ℕ) (c a n : ℕ)
+    (e : accepted (verdict (admitChecks s (length store) (length window) (length dest) c a n) (replied [])) ≡ true)
     (some : 0 < n) (size : length (commandOf s c .records) ≡ recordLimit) where
   abbrev p : CommandState
   p = commandOf s c

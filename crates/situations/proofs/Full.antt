@@ -81,11 +81,13 @@ unfolding window bytesOf dest fetchSays accepted verdict all ascending commandHo
 three-said = (refl, refl, refl)
 
 fill-next : fetchLeaves empty 32768 (length window) (length dest) 0 0 4096 ≡ full
-unfolding window bytesOf dest fetchState fetchSays accepted verdict all ascending commandHolds holds total held span countFresh countHeld keep lowest highest joined
+unfolding window bytesOf dest fetchState fetchSays accepted verdict all ascending commandHolds holds total held span countFresh countHeld keep
+    lowest highest joined
 fill-next = refl
 
 again-next : fetchLeaves full 32768 (length window) (length dest) 0 0 4096 ≡ full
-unfolding window bytesOf dest fetchState fetchSays accepted verdict all ascending commandHolds holds total held span countFresh countHeld keep lowest highest joined
+unfolding window bytesOf dest fetchState fetchSays accepted verdict all ascending commandHolds holds total held span countFresh countHeld keep
+    lowest highest joined
 again-next = refl
 
 module _ (m : Machine) (s : State) (is : m .state ≡ s) (size : length (m .store) ≡ 32768) where

@@ -33,9 +33,12 @@ module _ (e : tie.After-known-told2) where
   ready : Ready (stateOf (now (start e .args .state))) (length (now (start e .args .store))) (start e .args .command)
   ready = ended _ _ _ taken
 
--- where the command's words are lent, its number is in range
-in-range : (c : tie.After-slice-known3) → start (c .before .before .before .before) .args .command < commandLimit
-in-range c = ready (c .before .before .before .before) .command
+-- where the command's words are lent, with its part zeroed before that, its number is in range
+abbrev judged : tie.After-slice-known3 → tie.After-known-told2
+judged c = c .before .before .before .before
+
+in-range : (c : tie.After-slice-known3) → start (judged c) .args .command < commandLimit
+in-range c = ready (judged c) .command
 
 returns : tie.Need-returns
 unfolding accepted endState endStore
@@ -47,7 +50,8 @@ returns c =
 returns-2 : tie.Need-returns-2
 unfolding endState endStore
 returns-2 c =
-    let e = c .before .before .before .before .before .before .before .before in
+    let lent = c .before .before .before .before in
+    let e = judged lent in
     let a = start e .args in
     let reset = c .before .before .reset in
     record {
@@ -55,7 +59,7 @@ returns-2 c =
       state = returned-state (now (a .state)) (a .command) (start e .pre) (ready e .command) (reset .last .0) (reset .ensures .1)
           ∙ ap (withCommand (stateOf (now (a .state))) (a .command)) (reset .ensures .0) ∙ rw (taken e);
       kept = λ no. absurd (false≢true (sym no ∙ taken e));
-      bytes = c .before .before .before .before .before .before .zero .ensures ∙ rw (taken e);
+      bytes = lent .before .before .zero .ensures ∙ rw (taken e);
     }
 
 pub end-words-spec : {M : Type 1} → statement M

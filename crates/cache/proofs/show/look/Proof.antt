@@ -25,18 +25,23 @@ use Rattle.cache.proofs.show.look.Tie as tie
 command-low : (c : tie.Else1) → leb commandLimit (c .before .before .args .command) ≡ false
 command-low c = lt-leb commandLimit (c .before .before .args .command) (omega arith)
 
-state-whole : (c : tie.Else2) → holds (stateOf (now (c .before .before .before .before .args .state))) ≡ true
+-- where the call began, seen from behind the second test and behind the third
+abbrev from-whole : tie.Else2 → tie.Start
+from-whole c = c .before .before .before .before
+
+abbrev from-open : tie.Else3 → tie.Start
+from-open c = from-whole (c .before .before)
+
+state-whole : (c : tie.Else2) → holds (stateOf (now (from-whole c .args .state))) ≡ true
 state-whole c = sym (c .before .holds .ensures) ∙ not-false _ (c .if2 .left)
 
-is-open : (c : tie.Else3) → isOpen (stateOf (now (c .before .before .before .before .before .before .args .state))) (c .before .before .before .before .before .before .args .command) ≡ true
+is-open : (c : tie.Else3) → isOpen (stateOf (now (from-open c .args .state))) (from-open c .args .command) ≡ true
 is-open c = sym (c .before .is-open .ensures) ∙ not-false _ (c .if3 .left)
 
 -- the command that is lent is the state's
-own : (c : tie.Else3)
-    → commandIn (lent (now (c .before .before .before .before .before .before .args .state)) (c .before .before .before .before .before .before .args .command))
-    ≡ commandOf (stateOf (now (c .before .before .before .before .before .before .args .state))) (c .before .before .before .before .before .before .args .command)
+own : (c : tie.Else3) → let a = from-open c .args in commandIn (lent (now (a .state)) (a .command)) ≡ commandOf (stateOf (now (a .state))) (a .command)
 own c =
-    let start = c .before .before .before .before .before .before in
+    let start = from-open c in
     lent-command (now (start .args .state)) (start .args .command) (start .pre) (omega arith)
 
 returns : tie.Need-returns
@@ -58,7 +63,7 @@ unfolding showSays verdict
 returns-4 c =
     let opened = c .before .before .before .before in
     let whole = opened .before .before in
-    let a = opened .before .before .before .before .before .before .args in
+    let a = from-open opened .args in
     let many = c .before .before .used .ensures .0 ∙ ap (λ (p : CommandState). length (recordsIn p)) (own opened) in
     let none-left = never-false (pastLast (stateOf (now (a .state))) (a .command) (a .index) .applies) (λ e. omega (arith, leb-false)) in
     rw (command-low (whole .before .before), state-whole whole, is-open opened, none-left)
@@ -68,13 +73,14 @@ unfolding showSays verdict
 returns-5 c =
     let opened = c .before .before .before .before .before in
     let whole = opened .before .before in
-    let a = opened .before .before .before .before .before .before .args in
+    let a = from-open opened .args in
     let words = lent (now (a .state)) (a .command) in
     let p = commandIn words in
     let i = a .index in
     let used = c .before .before .before .used .ensures .0 in
     let below : i < p .count = omega (arith, length-take (p .count) (p .records)) in
-    let found = c .entry .ensures ∙ sym (getD-take (p .count) (p .records) i noRecord below ∙ entry-at words i (omega arith)) ∙ ap (λ (q : CommandState). getD (recordsIn q) i noRecord) (own opened) in
+    let stands = c .entry .ensures ∙ sym (getD-take (p .count) (p .records) i noRecord below ∙ entry-at words i (omega arith)) in
+    let found = stands ∙ ap (λ (q : CommandState). getD (recordsIn q) i noRecord) (own opened) in
     let many = used ∙ ap (λ (q : CommandState). length (recordsIn q)) (own opened) in
     let some-left = never-true (pastLast (stateOf (now (a .state))) (a .command) i .applies) (λ e. omega (arith, leb-true)) in
     let reply = ap (λ (r : Record). replied (r .start ∷ r .len ∷ [])) found in

@@ -24,10 +24,14 @@ add-move-up c =
           (e .args .behind) (fits .cut) (fits .room) (e .pre .2),
     )
 
+-- where the call began, seen from behind the move
+abbrev entered : tie.After-move-up → tie.Start
+entered moved = moved .before .before .before .before .before .before
+
 fill-requires : tie.Need-fill-requires
 fill-requires c κs =
     let moved = c .before .before .before in
-    let e = moved .before .before .before .before .before .before in
+    let e = entered moved in
     let fits = e .pre .1 in
     let p = commandIn (now (e .args .words)) in
     let size = ap length (moved .move-up .ensures)
@@ -39,7 +43,7 @@ returns : tie.Need-returns
 returns c =
     let done = c .before .before in
     let moved = done .before .before .before .before in
-    let e = moved .before .before .before .before .before .before in
+    let e = entered moved in
     let fits = e .pre .1 in
     let p = commandIn (now (e .args .words)) in
     done .fill .ensures ∙ ap (λ (l : List ℕ). filled (recordsIn p) (e .args .m) l (e .args .base) (now (e .args .source))) (moved .move-up .ensures)
