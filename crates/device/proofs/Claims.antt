@@ -4,8 +4,8 @@ use mathlib.Core.Path.{_≡_, refl}
 use mathlib.Core.List.{List, [], _∷_}
 use mathlib.Core.Bool.{Bool, true, false}
 use Rattle.octets.specs.Lists.{all}
-use Rattle.octets.proofs.Lists.{and-left, and-right}
-use Rattle.state.specs.Verdict.{replied, accepted, Check, verdict}
+use Rattle.state.specs.Verdict.{accepted, contains, keepsTo}
+use Rattle.state.proofs.Verdict.{verdict-keeps}
 use Rattle.frames.specs.declared.Step.{Step}
 use Rattle.frames.specs.declared.Step.the-variants.{Begin, Fetch, End, HostWrite, OwnWrite}
 use Rattle.frames.specs.Read.{fieldsSay, readSays, dataOf}
@@ -19,7 +19,7 @@ use Rattle.cache.specs.Show.{showSays}
 use Rattle.cache.specs.Runs.{Call, begin, fetch, end, hostWrite, ownWrite, show, Machine, says, delivers}
 use Rattle.device.specs.Step.{Device, callOf, deviceAfter}
 use Rattle.device.specs.Frame.{isReadable, takenUp, stepRead, frameCall, frameSays, frameLeaves, frameDelivers}
-use Rattle.device.specs.Claims.{Untouched, RefusedFrame, listed, ofReader, ofWriter, ofCall, contains, keepsTo, RefusalsListed}
+use Rattle.device.specs.Claims.{Untouched, RefusedFrame, listed, ofReader, ofWriter, ofCall, RefusalsListed}
 
 -- A refused call
 
@@ -48,20 +48,7 @@ refused-frame d frame away = go (isReadable frame) refl
     }
     go false r = record { device = rw r; delivered = rw r }
 
--- The numbers: those of a list of checks, or none
-
-verdict-keeps :
-    (ks : List ℕ) (cs : List Check) (ns : List ℕ) → all (λ c. contains ks (c .number)) cs ≡ true → keepsTo ks (verdict cs (replied ns)) ≡ true
-unfolding verdict all keepsTo
-verdict-keeps ks [] ns h = refl
-verdict-keeps ks (c ∷ cs) ns h =
-    go (c .applies) refl (and-left (contains ks (c .number)) _ h) (verdict-keeps ks cs ns (and-right (contains ks (c .number)) _ h))
-  where
-    go : (b : Bool) → c .applies ≡ b → contains ks (c .number) ≡ true → keepsTo ks (verdict cs (replied ns)) ≡ true
-        → keepsTo ks (verdict (c ∷ cs) (replied ns)) ≡ true
-    go true e first rest = rw e first
-    go false e first rest = rw e rest
-
+-- The numbers
 reads-keep : (frame : List ℕ) → keepsTo ofReader (readSays frame) ≡ true
 unfolding readSays fieldsSay all contains
 reads-keep frame = verdict-keeps ofReader _ _ refl

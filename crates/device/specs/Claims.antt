@@ -3,9 +3,8 @@
 use Prim.Native.Nat.{ℕ}
 use mathlib.Core.Path.{_≡_}
 use mathlib.Core.List.{List, [], _∷_}
-use mathlib.Core.Bool.{Bool, true, false, _||_}
-use lib.Dec.{eqb}
-use Rattle.state.specs.Verdict.{Reply, refused, replied, accepted}
+use mathlib.Core.Bool.{true, false}
+use Rattle.state.specs.Verdict.{accepted, keepsTo}
 use Rattle.frames.specs.Read.{readSays}
 use Rattle.frames.specs.Write.{writeSays}
 use Rattle.cache.specs.Runs.{Call, begin, fetch, end, hostWrite, ownWrite, show, Machine, says}
@@ -39,16 +38,6 @@ ofCall (end c) = 6 ∷ 8 ∷ 20 ∷ 21 ∷ []
 ofCall (hostWrite a bytes window) = 4 ∷ 7 ∷ 9 ∷ []
 ofCall (ownWrite c a bytes window) = 4 ∷ 6 ∷ 7 ∷ 9 ∷ 20 ∷ 21 ∷ []
 ofCall (show c i) = 6 ∷ 20 ∷ 21 ∷ 25 ∷ []
-
--- is the number in the list?
-unfoldable pub contains : List ℕ → ℕ → Bool
-contains [] n = false
-contains (k ∷ ks) n = eqb n k || contains ks n
-
--- is an answer a refusal with a number of the list, or no refusal?
-unfoldable pub keepsTo : List ℕ → Reply → Bool
-keepsTo ks (refused n) = contains ks n
-keepsTo ks (replied ns) = true
 
 -- Every refusal has a number of 01's lists, and one that 01 says can apply there.
 pub record RefusalsListed : Type 0 where

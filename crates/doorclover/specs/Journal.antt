@@ -3,9 +3,10 @@ use Prim.Native.Nat.{ℕ}
 use mathlib.Core.Path.{_≡_}
 use mathlib.Core.List.{List}
 use mathlib.Core.Bool.{cond}
+use Rattle.octets.specs.Lists.{count}
 use Rattle.octets.specs.Text.{Puts}
 use Rattle.device.specs.Step.{Device}
-use Rattle.journal.specs.Run.{Entry, entries, journalLeaves, freshDevice, logFrom, count, wasCarried, wasRefused, endsEarly}
+use Rattle.journal.specs.Run.{Entry, entries, journalLeaves, freshDevice, logFrom, wasCarried, wasRefused, endsEarly}
 use Rattle.doorclover.specs.declared.replay.Replayed.{Replayed}
 
 module _ (input store window dest : List ℕ) where

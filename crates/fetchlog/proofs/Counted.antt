@@ -5,10 +5,11 @@ use mathlib.Core.Path.{_≡_, refl}
 use mathlib.Core.List.{List, [], _∷_}
 use mathlib.Core.Bool.{Bool, true, false, cond}
 use lib.ListN.{length, drop}
+use Rattle.octets.specs.Lists.{count}
 use Rattle.state.specs.Verdict.{accepted}
 use Rattle.device.specs.Step.{Device}
 use Rattle.device.specs.Frame.{isReadable, takenUp, frameSays, frameLeaves}
-use Rattle.journal.specs.Run.{Entry, entriesIn, count, wasCarried, wasRefused, endsEarly}
+use Rattle.journal.specs.Run.{Entry, entriesIn, wasCarried, wasRefused, endsEarly}
 
 abbrev told : List Entry → ℕ
 told es = count wasCarried es + count wasRefused es + cond (endsEarly es) 1 0

@@ -5,11 +5,11 @@ use mathlib.Core.Path.{_≡_}
 use mathlib.Core.List.{List}
 use lib.ListN.{length}
 use Rattle.state.specs.Verdict.{accepted}
-use Rattle.octets.specs.Lists.{overwrite}
+use Rattle.octets.specs.Lists.{overwrite, count}
 use Rattle.log.specs.Line.{lineOf}
 use Rattle.device.specs.Step.{Device, deviceOf}
 use Rattle.device.specs.Frame.{takenUp, letterOf, frameSays, frameLeaves, frameDelivers}
-use Rattle.journal.specs.Run.{entries, journalLeaves, count, wasCarried, wasRefused, endsEarly}
+use Rattle.journal.specs.Run.{entries, journalLeaves, wasCarried, wasRefused, endsEarly}
 use Rattle.fetchlog.specs.declared.printing.Shown.{Shown}
 use Rattle.fetchlog.specs.declared.printing.Printed.{Printed}
 

@@ -6,6 +6,7 @@ use mathlib.Core.List.{List, [], _∷_, _++_}
 use mathlib.Core.Bool.{Bool, true, false, cond, not, _||_}
 use lib.Dec.{ltb}
 use lib.ListN.{length, getD}
+use Rattle.octets.specs.Lists.{count}
 use borrow.Author.Tests.{ltb-false, not-false}
 use Rattle.state.specs.declared.Record.{Record}
 use Rattle.state.specs.Limits.{windowLimit}
@@ -29,7 +30,6 @@ use Rattle.cache.specs.Show.{showSays}
 use Rattle.cache.specs.Runs.{Call, begin, fetch, end, hostWrite, ownWrite, show, Machine, start, says, after, along}
 use Rattle.history.specs.Journal.{Event, event, told}
 use Rattle.history.specs.Firsts.{memory, fetchedSince}
-use Rattle.history.specs.Counts.{count}
 use Rattle.history.specs.Answers.{openSince, fetchedCount, replayCount, firstCount, runsOf, runsWith, notOpen, bytesFull, recordsFull, noSuchRun}
 use Rattle.history.specs.Answers.{answerOwed, answersOwed, AnswersTold, answersGiven, CallsGiveAnswers}
 use Rattle.history.proofs.Stored.{memory-search, held-known}
@@ -40,16 +40,20 @@ use Rattle.history.proofs.Tied.{Tied, tied-start, tied-after}
 count-held : (rs : List Record) (xs : List ℕ) → countHeld rs xs ≡ count (held rs) xs
 unfolding countHeld count
 count-held rs [] = refl
-count-held rs (x ∷ xs) = ap (λ (k : ℕ). cond (held rs x) (suc k) k) (count-held rs xs)
+count-held rs (x ∷ xs) = go (held rs x) (count-held rs xs)
+  where
+    go : (b : Bool) {k l : ℕ} → k ≡ l → cond b (suc k) k ≡ cond b 1 0 + l
+    go true ih = omega arith
+    go false ih = omega arith
 
 count-fresh : (rs : List Record) (xs : List ℕ) → countFresh rs xs ≡ count (λ x. not (held rs x)) xs
 unfolding countFresh count
 count-fresh rs [] = refl
 count-fresh rs (x ∷ xs) = go (held rs x) (count-fresh rs xs)
   where
-    go : (b : Bool) {k l : ℕ} → k ≡ l → cond b k (suc k) ≡ cond (not b) (suc l) l
-    go true ih = ih
-    go false ih = ap suc ih
+    go : (b : Bool) {k l : ℕ} → k ≡ l → cond b k (suc k) ≡ cond (not b) 1 0 + l
+    go true ih = omega arith
+    go false ih = omega arith
 
 -- behind all addresses every held one counts
 place-end : (lo : ℕ) (rs : List Record) → ascending lo rs ≡ true → place rs windowLimit ≡ total rs

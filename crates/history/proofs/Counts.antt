@@ -8,6 +8,7 @@ use mathlib.Core.Bool.{Bool, true, false, false≢true}
 use lib.Dec.{eqb}
 use lib.ListN.{length}
 use borrow.Author.Tests.{eqb-true, eqb-false, eq-eqb, ne-eqb}
+use Rattle.octets.specs.Lists.{count}
 use Rattle.octets.proofs.Lists.{getD-same}
 use Rattle.state.specs.declared.Record.{Record}
 use Rattle.state.specs.Limits.{commandLimit}
@@ -22,7 +23,7 @@ use Rattle.cache.specs.Runs.{Call, begin, fetch, end, hostWrite, ownWrite, show
 use Rattle.cache.proofs.Unchanged.{refused-same}
 use Rattle.history.specs.Journal.{Event, event, told, deedOf}
 use Rattle.history.specs.Firsts.{Value, Memory, memory, isKnown, firstsAmong}
-use Rattle.history.specs.Counts.{countsIn, countsReplied, count, countsBy, countsOwed, bytesIn, bytesReplied, add, freshSince, sumBy, sumOwed}
+use Rattle.history.specs.Counts.{countsIn, countsReplied, countsBy, countsOwed, bytesIn, bytesReplied, add, freshSince, sumBy, sumOwed}
 use Rattle.history.specs.Claims.{CountsTie, EndSum}
 use Rattle.history.proofs.Replaced.{replaced, Fits}
 use Rattle.history.proofs.Effects.{old, grown, packed, zeros, begin-after, end-after, fetch-after, begin-fits, end-fits, packed-fits}
@@ -48,8 +49,8 @@ module _ (rs : List Record) (location : ℕ → ℕ) (store window : List ℕ) (
     where
       go : (b : Bool) → held rs x ≡ b → countHeld rs xs ≡ count (λ y. isKnown (known y)) xs
           → countHeld rs (x ∷ xs) ≡ count (λ y. isKnown (known y)) (x ∷ xs)
-      go true h ih = rw (h, same x, h) (ap suc ih)
-      go false h ih = rw (h, same x, h) ih
+      go true h ih = rw (h, same x, h) (omega arith)
+      go false h ih = rw (h, same x, h) (omega arith)
 
 counts-here : (m : Machine) (mem : Memory) (p : Call) (b : Bool) → accepted (says m p) ≡ b → Sound m mem
     → countsIn (says m p) (deedOf b p) ≡ countsBy mem (deedOf b p)

@@ -8,7 +8,7 @@ use mathlib.Core.List.{List, [], _∷_, map}
 use mathlib.Core.Logic.{_≢_}
 use mathlib.Core.Bool.{true, false, not}
 use lib.ListN.{replicate}
-use Rattle.octets.specs.Lists.{all}
+use Rattle.octets.specs.Lists.{count, all}
 use Rattle.state.specs.Records.{held, span, addresses, total, place, countFresh, countHeld, keep, lowest, highest, joined}
 use Rattle.state.specs.State.{isOpen, ascending, commandHolds, holds}
 use Rattle.state.specs.Verdict.{Reply, refused, replied, verdict, accepted}
@@ -18,7 +18,7 @@ use Rattle.cache.specs.End.{endSays, endState, endStore}
 use Rattle.cache.specs.Runs.{Call, begin, fetch, end, hostWrite, ownWrite, show, start, along, ran, delivers}
 use Rattle.history.specs.Journal.{Event, journal, told, backwards, deed}
 use Rattle.history.specs.Firsts.{remember, memory, finds, fetchedSince, First, firstsAmong, firstsBy, firsts, owedBy, owed}
-use Rattle.history.specs.Counts.{count, countsBy, countsOwed, add, freshSince, sumOwed}
+use Rattle.history.specs.Counts.{countsBy, countsOwed, add, freshSince, sumOwed}
 use Rattle.history.specs.Stores.{phaseBy, phase}
 use Rattle.history.specs.Answers.{openSince, replayCount, firstCount, answerOwed, eventsOf, spare}
 use Rattle.history.specs.Claims.{renews, mayChange, common}

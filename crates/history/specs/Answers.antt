@@ -8,6 +8,7 @@ use mathlib.Core.Bool.{Bool, true, false, not, _||_}
 use mathlib.Core.Logic.{_↔_}
 use lib.Dec.{ltb, leb}
 use lib.ListN.{length, getD}
+use Rattle.octets.specs.Lists.{count}
 use Rattle.state.specs.declared.Record.{Record}
 use Rattle.state.specs.declared.refusal.Refusal.the-variants.{CommandNotOpen, CommandAlreadyOpen, TooManyBytes, TooManyRecords, NoSuchRecord}
 use Rattle.state.specs.Limits.{recordLimit, heldLimit, windowLimit}
@@ -21,7 +22,7 @@ use Rattle.cache.specs.Runs.{Call, begin, fetch, end, hostWrite, ownWrite, show
 use Rattle.history.specs.Journal.{Event, journal, told, backwards}
 use Rattle.history.specs.Firsts.{fetchedSince}
 use Rattle.history.specs.Stores.{Phase, unbegun, running, finished, phase}
-use Rattle.history.specs.Counts.{count, freshSince}
+use Rattle.history.specs.Counts.{freshSince}
 
 -- Was the last accepted begin or end of the command a begin?
 abbrev pub isRunning : Phase → Bool

@@ -1,9 +1,10 @@
 -- The counts of a reply, and what they are by the first fetches, told from the journal.
-use Prim.Native.Nat.{ℕ, suc, _+_}
+use Prim.Native.Nat.{ℕ, _+_}
 use mathlib.Core.List.{List, [], _∷_}
-use mathlib.Core.Bool.{Bool, cond}
+use mathlib.Core.Bool.{cond}
 use lib.Dec.{eqb}
 use lib.ListN.{length, getD, drop}
+use Rattle.octets.specs.Lists.{count}
 use Rattle.state.specs.Records.{span}
 use Rattle.state.specs.Verdict.{Reply, numbersOf}
 use Rattle.history.specs.Journal.{Event, Deed, began, fetched, ended, other, deed}
@@ -18,11 +19,6 @@ countsIn r other = []
 
 abbrev pub countsReplied : List Event → Event → List ℕ
 countsReplied past e = countsIn (e .answer) (deed e)
-
--- how many of these addresses pass a test
-unfoldable pub count : (ℕ → Bool) → List ℕ → ℕ
-count test [] = 0
-count test (x ∷ xs) = cond (test x) (suc (count test xs)) (count test xs)
 
 -- fresh is the number of first fetches at this event, and replayed that of the span's addresses which the command has fetched before
 unfoldable pub countsBy : Memory → Deed → List ℕ

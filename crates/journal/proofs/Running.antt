@@ -12,12 +12,13 @@ use Rattle.state.specs.Verdict.{Reply, refused, replied, accepted, numbersOf}
 use Rattle.frames.specs.Read.{readSays}
 use Rattle.frames.specs.Layout.{fieldsOf}
 use Rattle.frames.proofs.Accepted.{readable, reads}
+use Rattle.octets.specs.Lists.{count}
 use Rattle.octets.specs.Text.{Puts}
 use Rattle.log.specs.Line.{lineOf}
 use Rattle.text.proofs.Putting.{puts-is, puts-none, puts-both}
 use Rattle.device.specs.Step.{Device, deviceOf}
 use Rattle.device.specs.Frame.{isReadable, takenUp, letterOf, frameSays, frameLeaves, frameDelivers}
-use Rattle.journal.specs.Run.{Entry, entryOf, entriesIn, leftIn, entries, journalLeaves, logFrom, count, wasCarried, wasRefused, endsEarly, Replays}
+use Rattle.journal.specs.Run.{Entry, entryOf, entriesIn, leftIn, entries, journalLeaves, logFrom, wasCarried, wasRefused, endsEarly, Replays}
 
 -- How many bytes a frame takes up
 

@@ -7,6 +7,7 @@ use mathlib.Core.Bool.{Bool, true, false, not, cond, _&&_, _||_}
 use lib.ListN.{length, drop}
 use Rattle.state.specs.Verdict.{Reply, accepted}
 use Rattle.cache.specs.Runs.{start}
+use Rattle.octets.specs.Lists.{count}
 use Rattle.octets.specs.Text.{Puts}
 use Rattle.log.specs.Line.{lineOf}
 use Rattle.journal.specs.declared.line.Logged.{Logged}
@@ -53,10 +54,6 @@ logFrom n [] = []
 logFrom n (e ∷ es) = lineOf n (e .letter) (e .reply) (e .delivered) ++ logFrom (suc n) es
 
 -- how many frames were carried out, how many a call refused, and whether an unreadable one ended the run
-unfoldable pub count : (Entry → Bool) → List Entry → ℕ
-count test [] = 0
-count test (e ∷ es) = cond (test e) 1 0 + count test es
-
 abbrev pub wasCarried : Entry → Bool
 wasCarried e = e .readable && accepted (e .reply)
 

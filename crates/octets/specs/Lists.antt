@@ -1,7 +1,7 @@
 -- Lists of bytes, and tests over lists.
 use Prim.Native.Nat.{ℕ, _+_}
 use mathlib.Core.List.{List, [], _∷_, _++_}
-use mathlib.Core.Bool.{Bool, true, _&&_}
+use mathlib.Core.Bool.{Bool, true, cond, _&&_}
 use lib.ListN.{length, take, drop}
 
 -- The buffer with these bytes in it from a place on. It says what every write leaves: in the store, the window and the destination.
@@ -11,6 +11,11 @@ overwrite buffer at bytes = take at buffer ++ bytes ++ drop (at + length bytes) 
 -- the n bytes of a buffer from a place on
 abbrev pub part : List ℕ → ℕ → ℕ → List ℕ
 part buffer at n = take n (drop at buffer)
+
+-- how many elements pass the test
+unfoldable pub count : {A : Type 0} → (A → Bool) → List A → ℕ
+count test [] = 0
+count test (x ∷ xs) = cond (test x) 1 0 + count test xs
 
 -- does every element pass the test?
 unfoldable pub all : {A : Type 0} → (A → Bool) → List A → Bool

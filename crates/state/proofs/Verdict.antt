@@ -9,7 +9,7 @@ use lib.Dec.{ltb, eqb}
 use borrow.Author.Tests.{ltb-true, eq-eqb}
 use Rattle.octets.specs.Lists.{all}
 use Rattle.octets.proofs.Lists.{and-left, and-right}
-use Rattle.state.specs.Verdict.{Reply, refused, replied, accepted, Check, _⇒_, verdict, numbers, applying, ascendFrom, minimum, lowestOr}
+use Rattle.state.specs.Verdict.{Reply, refused, replied, accepted, Check, _⇒_, verdict, numbers, applying, ascendFrom, minimum, lowestOr, contains, keepsTo}
 
 -- Accepted
 
@@ -72,6 +72,19 @@ never-given k (c ∷ cs) ns h =
         let is : c .number ≡ k = cc in
         false≢true (rw (a, eq-eqb (c .number) k is) at t)
     go false a t ih e = ih (rw a at e)
+
+-- the number given is one of those of the checks
+pub verdict-keeps :
+    (ks : List ℕ) (cs : List Check) (ns : List ℕ) → all (λ c. contains ks (c .number)) cs ≡ true → keepsTo ks (verdict cs (replied ns)) ≡ true
+unfolding verdict all keepsTo
+verdict-keeps ks [] ns h = refl
+verdict-keeps ks (c ∷ cs) ns h =
+    go (c .applies) refl (and-left (contains ks (c .number)) _ h) (verdict-keeps ks cs ns (and-right (contains ks (c .number)) _ h))
+  where
+    go : (b : Bool) → c .applies ≡ b → contains ks (c .number) ≡ true → keepsTo ks (verdict cs (replied ns)) ≡ true
+        → keepsTo ks (verdict (c ∷ cs) (replied ns)) ≡ true
+    go true e first rest = rw e first
+    go false e first rest = rw e rest
 
 -- a verdict told check by check, as code that goes through the checks tells it
 module _ (b : Bool) (n : ℕ) (cs : List Check) (reply : Reply) where

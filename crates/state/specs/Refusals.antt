@@ -1,5 +1,5 @@
--- The number in 01 (the agreed scope; docs/RULES.md has its rules) of each refusal, and its reason in words ("Turned away because of the
--- input", "Turned away because of the state").
+-- The number of each refusal, and its reason in words (01, the agreed scope, "Turned away because of the input", "Turned away because of the
+-- state"; 30 is of request F-2 of 02, the agreed changes; docs/RULES.md has their rules).
 use Prim.Native.Nat.{ℕ}
 use Prim.Native.String.{String}
 use mathlib.Core.List.{List, _++_}
@@ -8,7 +8,7 @@ use Rattle.octets.specs.Text.{ascii}
 use Rattle.state.specs.declared.refusal.Refusal.{Refusal}
 use Rattle.state.specs.declared.refusal.Refusal.the-variants.{FrameTooShort, UnknownKind, FieldNotZero, LengthTooLong, DataMismatch, CommandTooHigh}
 use Rattle.state.specs.declared.refusal.Refusal.the-variants.{WindowTooLong, StoreWrongSize, OutsideWindow, BufferTooShort, AddressTooHigh, StateBroken}
-use Rattle.state.specs.declared.refusal.Refusal.the-variants.{CommandNotOpen, CommandAlreadyOpen, TooManyBytes, TooManyRecords, NoSuchRecord}
+use Rattle.state.specs.declared.refusal.Refusal.the-variants.{CommandNotOpen, CommandAlreadyOpen, TooManyBytes, TooManyRecords, NoSuchRecord, WindowBeyondMap}
 
 abbrev pub number : Refusal → ℕ
 number FrameTooShort = 1
@@ -28,6 +28,7 @@ number CommandAlreadyOpen = 22
 number TooManyBytes = 23
 number TooManyRecords = 24
 number NoSuchRecord = 25
+number WindowBeyondMap = 30
 
 -- the reason as a program tells it; 01 has the numbers alone
 abbrev pub reason : Refusal → String
@@ -48,6 +49,7 @@ reason CommandAlreadyOpen = "the command is open already"
 reason TooManyBytes = "the command would hold more than 4096 bytes"
 reason TooManyRecords = "the command would have more than 64 records"
 reason NoSuchRecord = "the command has no record of this number"
+reason WindowBeyondMap = "the window is longer than 4096 bytes"
 
 -- with blanks behind it, up to 43 characters
 abbrev pub padded : String → List ℕ

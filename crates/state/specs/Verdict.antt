@@ -1,8 +1,8 @@
 -- What a call answers: the number of a refusal, or the numbers of its reply.
 use Prim.Native.Nat.{ℕ, min}
 use mathlib.Core.List.{List, [], _∷_, map}
-use mathlib.Core.Bool.{Bool, true, false, cond, _&&_}
-use lib.Dec.{ltb}
+use mathlib.Core.Bool.{Bool, true, false, cond, _&&_, _||_}
+use lib.Dec.{ltb, eqb}
 
 -- the answer of 01 (the agreed scope; docs/RULES.md has its rules): the refusal number or the whole reply
 pub data Reply : Type 0 where
@@ -53,3 +53,13 @@ minimum k (n ∷ ns) = min n (minimum k ns)
 unfoldable pub lowestOr : List ℕ → Reply → Reply
 lowestOr [] reply = reply
 lowestOr (k ∷ ks) reply = refused (minimum k ks)
+
+-- is the number in the list?
+unfoldable pub contains : List ℕ → ℕ → Bool
+contains [] n = false
+contains (k ∷ ks) n = eqb n k || contains ks n
+
+-- is an answer a refusal with a number of the list, or no refusal?
+unfoldable pub keepsTo : List ℕ → Reply → Bool
+keepsTo ks (refused n) = contains ks n
+keepsTo ks (replied ns) = true

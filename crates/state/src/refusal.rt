@@ -1,5 +1,5 @@
-// Why a call or a frame is turned away: a case for each number of the two lists of document 01 (the agreed scope; docs/RULES.md has its
-// rules).
+// Why a call or a frame is turned away: a case for each number of the two lists of document 01, the agreed scope, and of 02, the agreed
+// changes (docs/RULES.md has the rules of both).
 ghost use mathlib.Core.Path.{_≡_};
 ghost use Rattle.state.specs.Refusals.{number, reason, padded};
 
@@ -23,6 +23,8 @@ pub enum Refusal {
     TooManyBytes,
     TooManyRecords,
     NoSuchRecord,
+    // by the byte map alone, because of the input
+    WindowBeyondMap,
 }
 
 impl Refusal {
@@ -47,6 +49,7 @@ impl Refusal {
             Refusal::TooManyBytes => 23,
             Refusal::TooManyRecords => 24,
             Refusal::NoSuchRecord => 25,
+            Refusal::WindowBeyondMap => 30,
         }
     }
 
@@ -72,6 +75,7 @@ impl Refusal {
             Refusal::TooManyBytes => *b"the command would hold more than 4096 bytes",
             Refusal::TooManyRecords => *b"the command would have more than 64 records",
             Refusal::NoSuchRecord => *b"the command has no record of this number   ",
+            Refusal::WindowBeyondMap => *b"the window is longer than 4096 bytes       ",
         }
     }
 }

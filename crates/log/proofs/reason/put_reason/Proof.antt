@@ -12,7 +12,7 @@ use Rattle.octets.specs.Text.{ascii}
 use Rattle.state.specs.declared.refusal.Refusal.{Refusal}
 use Rattle.state.specs.declared.refusal.Refusal.the-variants.{FrameTooShort, UnknownKind, FieldNotZero, LengthTooLong, DataMismatch}
 use Rattle.state.specs.declared.refusal.Refusal.the-variants.{CommandTooHigh, WindowTooLong, StoreWrongSize, OutsideWindow, BufferTooShort, AddressTooHigh}
-use Rattle.state.specs.declared.refusal.Refusal.the-variants.{StateBroken, CommandNotOpen, CommandAlreadyOpen, TooManyBytes, TooManyRecords, NoSuchRecord}
+use Rattle.state.specs.declared.refusal.Refusal.the-variants.{StateBroken, CommandNotOpen, CommandAlreadyOpen, TooManyBytes, TooManyRecords, NoSuchRecord, WindowBeyondMap}
 use Rattle.state.specs.Refusals.{reason, padded}
 use Rattle.log.specs.Reason.{filled}
 use Rattle.text.proofs.Putting.{puts-is}
@@ -50,6 +50,7 @@ words CommandAlreadyOpen = refl
 words TooManyBytes = refl
 words TooManyRecords = refl
 words NoSuchRecord = refl
+words WindowBeyondMap = refl
 
 -- the reason got, and how long it is
 module _ (c : tie.After-filled) where

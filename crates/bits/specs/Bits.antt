@@ -1,0 +1,44 @@
+-- Bits of words: one for each address, 64 in a word, the lowest address in the lowest bit (request F-2 of 02, the agreed changes;
+-- docs/RULES.md has its rules).
+use Prim.Native.Nat.{ℕ, zero, suc, _+_, _*_, _/_, _%_, _^_}
+use mathlib.Core.Path.{_≡_}
+use mathlib.Core.List.{List, [], _∷_, map}
+use mathlib.Core.Bool.{Bool, cond, _&&_}
+use lib.Dec.{ltb, eqb}
+use lib.Count.{ones}
+use lib.ListN.{length, getD}
+use Rattle.octets.specs.Lists.{count, all}
+use Rattle.state.specs.Records.{span}
+
+-- how many words there are, and how many addresses
+abbrev pub wordLimit : ℕ
+wordLimit = 64
+
+abbrev pub mapLimit : ℕ
+mapLimit = 4096
+
+-- is bit j of a word set?
+abbrev pub bit : (w j : ℕ) → Bool
+bit w j = eqb (w / 2 ^ j % 2) 1
+
+-- is the bit of address x set?
+abbrev pub isSet : (words : List ℕ) (x : ℕ) → Bool
+isSet words x = bit (getD words (x / 64) 0) (x % 64)
+
+-- the word of k bits whose bit j is set exactly if j passes the test
+unfoldable pub wordOf : (ℕ → Bool) → (k : ℕ) → ℕ
+wordOf test zero = 0
+wordOf test (suc k) = cond (test 0) 1 0 + wordOf (λ j. test (suc j)) k * 2
+
+-- the words in which the bit of an address is set exactly if the address passes
+unfoldable pub wordsOf : (ℕ → Bool) → List ℕ
+wordsOf test = map (λ i. wordOf (λ j. test (64 * i + j)) 64) (span 0 wordLimit)
+
+-- the ones of all words, summed
+unfoldable pub onesOf : List ℕ → ℕ
+onesOf [] = 0
+onesOf (w ∷ ws) = ones w + onesOf ws
+
+-- words as a map has them: 64, each of 64 bits
+abbrev pub areWords : List ℕ → Bool
+areWords words = eqb (length words) wordLimit && all (λ w. ltb w (2 ^ 64)) words

@@ -1,0 +1,1 @@
+// Words of bits: one bit for each address of a byte map.

@@ -1,0 +1,6 @@
+pub mod Map
+pub mod Begin
+pub mod Fetch
+pub mod End
+pub mod Runs
+pub mod Claims

@@ -1,0 +1,6 @@
+use state::Refusal;
+
+pub enum BeginAnswer {
+    Done,
+    Refused(Refusal),
+}
