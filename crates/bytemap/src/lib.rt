@@ -1,4 +1,3 @@
 // The byte map: a small engine for one command and a window of at most 4,096 bytes, with one bit and one held value for each address.
-pub mod begin;
-pub mod end;
-pub mod fetch;
+mod clean;
+mod take;

@@ -1,0 +1,88 @@
+-- What a loop over a span makes of the values: those that it has passed are taken, and the others are as they were.
+use Prim.Native.Nat.{ℕ, zero, suc, _+_, _-_, _/_, _%_, _^_, _≤_, _<_}
+use native.Mathlib.Omega.{arith}
+use native.Mathlib.Nat.{add-zero}
+use mathlib.Core.Path.{_≡_, refl, ap, sym, _∙_}
+use mathlib.Core.List.{List, [], _∷_, _++_, map, map-append}
+use mathlib.Core.Bool.{Bool, cond}
+use lib.Dec.{eqb}
+use lib.Pow.{shr-shr}
+use lib.ListN.{length, getD, set, length-map}
+use Rattle.octets.specs.Lists.{overwrite}
+use Rattle.octets.proofs.Overwrite.{overwrite-none, overwrite-then, overwrite-more, overwrite-above, length-overwrite}
+use Rattle.state.specs.Records.{span}
+use Rattle.state.proofs.Places.{length-span, span-append, map-span}
+use Rattle.bits.specs.Bits.{bit}
+use Rattle.bytemap.specs.Values.{bitsFrom, taken}
+
+-- a shift to the right moves the bits down
+pub bit-shifted : (w s j : ℕ) → bit (w / 2 ^ s) j ≡ bit w (s + j)
+bit-shifted w s j = ap (λ (n : ℕ). eqb (n % 2) 1) (shr-shr w s j)
+
+-- what is taken depends on the tests and the values of the span alone
+pub taken-same :
+    (held held′ : ℕ → Bool) (values values′ window : List ℕ) (a n : ℕ)
+    → ((x : ℕ) → a ≤ x → x < a + n → (held x ≡ held′ x) × (getD values x 0 ≡ getD values′ x 0))
+    → taken held values window a n ≡ taken held′ values′ window a n
+unfolding span
+taken-same held held′ values values′ window a zero same = refl
+taken-same held held′ values values′ window a (suc n) same =
+    let here = same a (omega arith) (omega arith) in
+    rw (here .0, here .1, taken-same held held′ values values′ window (suc a) n (λ x h k. same x (omega arith) (omega arith)))
+
+module _ (held : ℕ → Bool) (values window : List ℕ) (a : ℕ) where
+  pub length-taken : (n : ℕ) → length (taken held values window a n) ≡ n
+  length-taken n = length-map (span a n) (λ (x : ℕ). cond (held x) (getD values x 0) (getD window x 0)) ∙ length-span a n
+
+  -- none, and some more
+  pub taken-none : overwrite values a (taken held values window a 0) ≡ values
+  unfolding span
+  taken-none = overwrite-none values a
+
+  pub taken-more : (n k : ℕ) → taken held values window a (n + k) ≡ taken held values window a n ++ taken held values window (a + n) k
+  taken-more n k =
+      ap (map (λ (x : ℕ). cond (held x) (getD values x 0) (getD window x 0))) (span-append a n k)
+      ∙ map-append (λ (x : ℕ). cond (held x) (getD values x 0) (getD window x 0)) (span a n) (span (a + n) k)
+
+  -- the values once the first n of the span are taken
+  abbrev pub passed : ℕ → List ℕ
+  passed n = overwrite values a (taken held values window a n)
+
+  pub length-passed : (n : ℕ) → a + n ≤ length values → length (passed n) ≡ length values
+  length-passed n fits = length-overwrite values (taken held values window a n) a (omega (arith, length-taken n))
+
+  -- a value that is not passed yet is as it was
+  still : (n x : ℕ) → a + n ≤ length values → a + n ≤ x → getD (passed n) x 0 ≡ getD values x 0
+  still n x fits far =
+      overwrite-above values (taken held values window a n) a (omega (arith, length-taken n)) x 0 (omega (arith, length-taken n))
+
+  -- so the next k are taken from the values as they were
+  pub passed-more :
+      (n k : ℕ) → a + n + k ≤ length values
+      → overwrite (passed n) (a + n) (taken held (passed n) window (a + n) k) ≡ passed (n + k)
+  passed-more n k fits =
+      ap (overwrite (passed n) (a + n)) (taken-same held held (passed n) values window (a + n) k (λ x h i. (refl, still n x (omega arith) h)))
+      ∙ ap (λ (i : ℕ). overwrite (passed n) (a + i) (taken held values window (a + n) k)) (sym (length-taken n))
+      ∙ overwrite-then values (taken held values window a n) (taken held values window (a + n) k) a (omega arith)
+      ∙ ap (overwrite values a) (sym (taken-more n k))
+
+-- one value taken
+pub taken-one : (held : ℕ → Bool) (values window : List ℕ) (x : ℕ) → x < length values
+    → set values x (cond (held x) (getD values x 0) (getD window x 0)) ≡ overwrite values x (taken held values window x 1)
+unfolding span
+taken-one held values window x inside =
+    ap (λ (l : List ℕ). set l x (cond (held x) (getD values x 0) (getD window x 0))) (sym (overwrite-none values (suc x)))
+    ∙ overwrite-more values [] x (cond (held x) (getD values x 0) (getD window x 0)) inside
+
+-- one value taken, by the lowest bit of those that are left
+pub passed-one :
+    (bits : ℕ) (values window : List ℕ) (low i : ℕ) → low + i < length values →
+    let now = passed (bitsFrom low bits) values window low i in
+    set now (low + i) (cond (bit (bits / 2 ^ i) 0) (getD now (low + i) 0) (getD window (low + i) 0))
+    ≡ passed (bitsFrom low bits) values window low (i + 1)
+passed-one bits values window low i inside =
+    let now = passed (bitsFrom low bits) values window low i in
+    let here : bit (bits / 2 ^ i) 0 ≡ bitsFrom low bits (low + i) = bit-shifted bits i 0 ∙ ap (bit bits) (omega arith) in
+    rw here
+    (taken-one (bitsFrom low bits) now window (low + i) (omega (arith, length-passed (bitsFrom low bits) values window low i (omega arith)))
+    ∙ passed-more (bitsFrom low bits) values window low i 1 (omega arith))

@@ -1,6 +1,0 @@
-use state::Refusal;
-
-pub enum BeginAnswer {
-    Done,
-    Refused(Refusal),
-}
