@@ -1,1 +1,3 @@
 pub mod Taking
+pub mod Cleaning
+pub mod Claims

@@ -2,7 +2,7 @@
 use Prim.Native.Nat.{ℕ, zero, suc, _+_, _-_, _/_, _%_, _^_, _≤_, _<_}
 use native.Mathlib.Omega.{arith}
 use native.Mathlib.Nat.{add-zero}
-use mathlib.Core.Path.{_≡_, refl, ap, sym, _∙_}
+use mathlib.Core.Path.{_≡_, refl, ap, ap₂, sym, _∙_}
 use mathlib.Core.List.{List, [], _∷_, _++_, map, map-append}
 use mathlib.Core.Bool.{Bool, cond}
 use lib.Dec.{eqb}
@@ -12,7 +12,7 @@ use Rattle.octets.specs.Lists.{overwrite}
 use Rattle.octets.proofs.Overwrite.{overwrite-none, overwrite-then, overwrite-more, overwrite-above, length-overwrite}
 use Rattle.state.specs.Records.{span}
 use Rattle.state.proofs.Places.{length-span, span-append, map-span}
-use Rattle.bits.specs.Bits.{bit}
+use Rattle.bits.specs.Bits.{bit, isSet}
 use Rattle.bytemap.specs.Values.{bitsFrom, taken}
 
 -- a shift to the right moves the bits down
@@ -86,3 +86,25 @@ passed-one bits values window low i inside =
     rw here
     (taken-one (bitsFrom low bits) now window (low + i) (omega (arith, length-passed (bitsFrom low bits) values window low i (omega arith)))
     ∙ passed-more (bitsFrom low bits) values window low i 1 (omega arith))
+
+-- the bits of a word from that of an address on are those of the addresses from there on
+same-word : (words : List ℕ) (x y : ℕ) → x ≤ y → y < x + (64 - x % 64)
+    → bitsFrom x (getD words (x / 64) 0 / 2 ^ (x % 64)) y ≡ isSet words y
+same-word words x y after near =
+    let word : y / 64 ≡ x / 64 = omega arith in
+    let place : x % 64 + (y - x) ≡ y % 64 = omega arith in
+    bit-shifted (getD words (x / 64) 0) (x % 64) (y - x) ∙ ap₂ (λ (w j : ℕ). bit (getD words w 0) j) (sym word) place
+
+-- some values taken, by a word of the map
+pub passed-word :
+    (words values window : List ℕ) (low i k : ℕ) → low + i + k ≤ length values → k ≤ 64 - (low + i) % 64 →
+    let now = passed (isSet words) values window low i in
+    overwrite now (low + i) (taken (bitsFrom (low + i) (getD words ((low + i) / 64) 0 / 2 ^ ((low + i) % 64))) now window (low + i) k)
+    ≡ passed (isSet words) values window low (i + k)
+passed-word words values window low i k fits near =
+    let now = passed (isSet words) values window low i in
+    let x = low + i in
+    ap (overwrite now x)
+    (taken-same (bitsFrom x (getD words (x / 64) 0 / 2 ^ (x % 64))) (isSet words) now now window x k
+    (λ y after below. (same-word words x y after (omega arith), refl)))
+    ∙ passed-more (isSet words) values window low i k fits

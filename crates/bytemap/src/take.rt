@@ -1,7 +1,7 @@
 // The bytes of a span come to be held: those that were not are read from the window.
 ghost use mathlib.Core.Path.{_≡_};
 ghost use mathlib.Core.Bool.{cond};
-ghost use Prim.Native.Nat.{_+_, _-_, _<_, _≤_};
+ghost use Prim.Native.Nat.{_+_, _-_, _^_, _<_, _≤_};
 ghost use lib.ListN.{length, getD, set};
 ghost use Rattle.octets.specs.Lists.{overwrite};
 ghost use Rattle.bits.specs.Bits.{bit, isSet, wordLimit, mapLimit};
@@ -32,17 +32,30 @@ fn take_some(bits: u64, values: &mut [u8], window: &[u8], low: usize, n: usize)
     }
 }
 
+// The n lowest bits.
+fn low_bits(n: usize) -> u64
+    requires { ⌜ n ≤ 64 ⌝ }
+    ensures { λ r. ⌜ r ≡ 2 ^ n - 1 ⌝ }
+{
+    if n == 64 {
+        return u64::MAX;
+    }
+    (1u64 << n) - 1
+}
+
 // The bytes of a span that lies in one word of the map. Where none of them is held they are copied at once, and where all are there is
 // nothing to do.
 fn take_part(bits: u64, values: &mut [u8], window: &[u8], low: usize, n: usize)
     requires { ⌜ (n ≤ 64) × (low + n ≤ length (now values)) × (low + n ≤ length (now window)) ⌝ }
     ensures { λ _. ⌜ now (values .exit) ≡ overwrite (now (values .entry)) low (taken (bitsFrom low bits) (now (values .entry)) (now (window .entry)) low n) ⌝ }
 {
-    if bits == 0 {
+    let span = low_bits(n);
+    let held = bits & span;
+    if held == 0 {
         octets::copy_at(values, low, &window[low..low + n]);
         return;
     }
-    if bits == u64::MAX {
+    if held == span {
         return;
     }
     take_some(bits, values, window, low, n);

@@ -7,6 +7,7 @@ ghost use Rattle.state.specs.State.{freshState};
 ghost use Rattle.state.specs.Words.{stateOf};
 
 mod answer;
+pub mod range;
 mod refusal;
 
 pub use answer::BeginAnswer;
