@@ -59,12 +59,12 @@ count-room test a n k fits = omega (arith, count-within (λ x. not (test x)) a n
 -- From a bound on no address passes.
 
 module _ (test : ℕ → Bool) where
-  count-none : (x n : ℕ) → ((y : ℕ) → x ≤ y → test y ≡ false) → count test (span x n) ≡ 0
+  pub count-none : (x n : ℕ) → ((y : ℕ) → x ≤ y → test y ≡ false) → count test (span x n) ≡ 0
   unfolding count span
   count-none x zero h = refl
   count-none x (suc n) h = rw (h x (omega arith)) (omega (arith, count-none (suc x) n (λ y k. h y (omega arith))))
 
-  runs-none : (x n : ℕ) → ((y : ℕ) → x ≤ y → test y ≡ false) → runsFrom test x n ≡ []
+  pub runs-none : (x n : ℕ) → ((y : ℕ) → x ≤ y → test y ≡ false) → runsFrom test x n ≡ []
   unfolding runsFrom
   runs-none x zero h = refl
   runs-none x (suc n) h = rw (h x (omega arith)) (runs-none (suc x) n (λ y k. h y (omega arith)))
