@@ -7,29 +7,33 @@ use mathlib.Core.List.{List, [], _∷_, map}
 use mathlib.Core.Bool.{Bool, true, false, false≢true, cond, not, _&&_, _||_, and-false}
 use lib.Dec.{leb, ltb, eqb}
 use lib.ListN.{length, getD}
-use borrow.Author.Tests.{leb-true, le-leb, lt-leb, ltb-true, ltb-false, le-ltb, eq-eqb}
+use borrow.Author.Tests.{leb-true, le-leb, lt-leb, ltb-true, ltb-false, le-ltb, eq-eqb, not-false}
 use Rattle.octets.specs.Lists.{count, all, overwrite}
 use Rattle.state.specs.Limits.{commandLimit, recordLimit, heldLimit, windowLimit, storeSize}
 use Rattle.state.specs.Records.{inSpan, span, held, total}
 use Rattle.state.specs.Runs.{runs, runsFrom}
 use Rattle.state.specs.State.{recordsOf, isOpen}
 use Rattle.state.specs.Verdict.{Reply, replied, accepted, verdict}
+use Rattle.state.proofs.Verdict.{none-applies}
 use Rattle.bits.specs.Bits.{mapLimit, isSet, wordsOf, onesOf}
-use Rattle.bytemap.specs.Map.{Map, isHeld, heldCount, runsOf, cleared, holds}
+use Rattle.bytemap.specs.Map.{Map, isOpen as isMapOpen, isHeld, heldCount, runsOf, cleared, holds}
 use Rattle.bytemap.specs.Begin.{beginSays, beginMap}
-use Rattle.bytemap.specs.Fetch.{heldThen, runsThen, fetchSays, fetchMap, fetchDest}
+use Rattle.bytemap.specs.Fetch.{heldThen, runsThen, seen, fetchSays, fetchMap, fetchDest}
 use Rattle.bytemap.specs.End.{endSays, endMap}
 use Rattle.bytemap.specs.Runs as bytemap
 use Rattle.cache.specs.Runs.{Call, begin, fetch, end, Machine, says, after, destAfter, delivers}
+use Rattle.store.specs.Store.{location, byteAt, sees as seesByRecords}
+use Rattle.cache.specs.Fetch.{fetchDest as fetchDestByRecords}
 use Rattle.history.specs.Journal.{Event, event, deedOf}
-use Rattle.history.specs.Firsts.{Value, none, first, orElse, isKnown, recall, memory, fetchedSince}
-use Rattle.history.specs.Answers.{openSince, fetchedCount, firstCount, answerOwed}
+use Rattle.history.specs.Firsts.{Value, none, first, orElse, isKnown, recall, remember, memory, fetchedSince}
+use Rattle.history.specs.Stores.{phaseBy, phase}
+use Rattle.history.specs.Answers.{isRunning, openSince, fetchedCount, firstCount, answerOwed}
 use Rattle.history.proofs.Stored.{memory-search}
-use Rattle.history.proofs.Tied.{Tied}
+use Rattle.history.proofs.Tied.{Tied, tied-after}
 use Rattle.history.proofs.Answers.{answer-here}
 use Rattle.agreement.specs.Agreement.{asCommand, isSmall}
 use Rattle.agreement.proofs.Spans.{count-room, count-low, runs-low}
-use Rattle.agreement.proofs.Follows.{Follows, follows-holds}
+use Rattle.agreement.proofs.Follows.{Follows, follows-holds, sees-known, cleared-follows, fetch-follows}
 
 -- what a command that is open now has first fetched at an address since its begin
 abbrev pub knownSince : List Event → (c x : ℕ) → Value
@@ -110,3 +114,97 @@ module _ (c : ℕ) (low : c < commandLimit) {m : Map} {j : Machine} (B : Beside 
   answer-same bytemap.begin h = begin-same
   answer-same (bytemap.fetch a n dest window) h = fetch-same a n dest window (leb-true (length window) mapLimit h)
   answer-same bytemap.end h = end-same
+
+-- The destinations
+
+-- what the record engine's command sees at an address, too, is the value known there once it is fetched
+module _ {j : Machine} {past : List Event} (T : Tied storeSize j past) (c : ℕ) (o : isOpen (j .state) c ≡ true) where
+  records-see : (window : List ℕ) (x : ℕ)
+      → seesByRecords (recordsOf (j .state) c) (location (j .state) c) (j .store) (byteAt window) x
+      ≡ recall (orElse (memory past c x) (getD window x 0))
+  records-see window x = rw (T .sound .known c x o) (go (held (recordsOf (j .state) c) x) _ _)
+    where
+      go : (h : Bool) (u w : ℕ) → cond h u w ≡ recall (orElse (cond h (first u) none) w)
+      go true u w = refl
+      go false u w = refl
+
+module _ (c : ℕ) (low : c < commandLimit) {m : Map} {j : Machine} (B : Beside c m j) where
+  -- what an accepted fetch tells of the map
+  record Taken (a n : ℕ) : Type 0 where
+    opened : openSince (B .past) c ≡ true
+    fits : a + n ≤ mapLimit
+    room : length (runsThen m a n) ≤ recordLimit
+
+  module _ (a n : ℕ) (dest window : List ℕ) where
+    taken : accepted (fetchSays m (length window) (length dest) a n) ≡ true → Taken a n
+    unfolding fetchSays
+    taken e =
+        let f = none-applies _ _ e in
+        record {
+          opened = sym (B .follows .same) ∙ not-false (isMapOpen m) (f .1 .1 .1 .1 .1 .0);
+          fits = omega (arith, ltb-false mapLimit (length window) (f .1 .0), ltb-false (length window) (a + n) (f .1 .1 .0));
+          room = ltb-false recordLimit (length (runsThen m a n)) (f .1 .1 .1 .1 .1 .1 .0);
+        }
+
+    -- the map follows the whole memory of the open command
+    follows-open : openSince (B .past) c ≡ true → Follows m true (memory (B .past) c)
+    follows-open o = subst (λ (b : Bool). Follows m b (λ x. cond b (memory (B .past) c x) none)) o (B .follows)
+
+    spans-same : openSince (B .past) c ≡ true
+        → seen m window dest a n ≡ map (seesByRecords (recordsOf (j .state) c) (location (j .state) c) (j .store) (byteAt window)) (span a n)
+    spans-same o =
+        ap (λ (f : ℕ → ℕ). map f (span a n))
+        (fun-ext λ x. sees-known (follows-open o) window x ∙ sym (records-see (B .tied) c (B .tied .opened c ∙ o) window x))
+
+    fetch-dest-same : length window ≤ mapLimit → fetchDest m window dest a n ≡ destAfter j (fetch c a n dest window)
+    unfolding fetchDest fetchDestByRecords
+    fetch-dest-same small = go (accepted (fetchSays m (length window) (length dest) a n)) refl (fetch-same c low B a n dest window small)
+      where
+        go : (b : Bool) → accepted (fetchSays m (length window) (length dest) a n) ≡ b
+            → fetchSays m (length window) (length dest) a n ≡ says j (fetch c a n dest window)
+            → fetchDest m window dest a n ≡ destAfter j (fetch c a n dest window)
+        go true e same = rw (← same, e, spans-same (taken e .opened))
+        go false e same = rw (← same, e)
+
+  pub dest-same : (p : bytemap.Call) → isSmall p ≡ true → bytemap.destAfter m p ≡ destAfter j (asCommand c p)
+  dest-same bytemap.begin h = refl
+  dest-same (bytemap.fetch a n dest window) h = fetch-dest-same a n dest window (leb-true (length window) mapLimit h)
+  dest-same bytemap.end h = refl
+
+  pub delivered-same : (p : bytemap.Call) → isSmall p ≡ true → bytemap.delivers m p ≡ delivers j (asCommand c p)
+  delivered-same p h = go p (answer-same c low B p h) (dest-same p h)
+    where
+      go : (p : bytemap.Call) → bytemap.says m p ≡ says j (asCommand c p) → bytemap.destAfter m p ≡ destAfter j (asCommand c p)
+          → bytemap.delivers m p ≡ delivers j (asCommand c p)
+      go bytemap.begin s d = rw s
+      go (bytemap.fetch a n dest window) s d = rw (s, d)
+      go bytemap.end s d = rw s
+
+-- After the call
+
+module _ (is-set : (test : ℕ → Bool) (x : ℕ) → x < mapLimit → isSet (wordsOf test) x ≡ test x)
+    (ones-of : (test : ℕ → Bool) → onesOf (wordsOf test) ≡ count test (span 0 mapLimit))
+    (c : ℕ) (low : c < commandLimit) {m : Map} {j : Machine} (B : Beside c m j) where
+  abbrev FollowsThen : bytemap.Call → Bool → Type 0
+  FollowsThen p b =
+      Follows (bytemap.after m p) (isRunning (phaseBy (deedOf b (asCommand c p)) c (phase (B .past) c)))
+      (λ x. cond (isRunning (phaseBy (deedOf b (asCommand c p)) c (phase (B .past) c))) (remember (memory (B .past)) (deedOf b (asCommand c p)) c x) none)
+
+  follows-after : (p : bytemap.Call) (b : Bool) → accepted (bytemap.says m p) ≡ b → FollowsThen p b
+  unfolding phaseBy remember beginMap fetchMap endMap
+  follows-after bytemap.begin true e = rw (e, eq-eqb c c refl) (cleared-follows 1)
+  follows-after bytemap.begin false e = rw e (B .follows)
+  follows-after (bytemap.fetch a n dest window) true e =
+      let t = taken c low B a n dest window e in
+      rw (e, t .opened, eq-eqb c c refl) (fetch-follows is-set ones-of (follows-open c low B a n dest window (t .opened)) window dest a n (t .fits) (t .room))
+  follows-after (bytemap.fetch a n dest window) false e = rw e (B .follows)
+  follows-after bytemap.end true e = rw (e, eq-eqb c c refl) (cleared-follows 0)
+  follows-after bytemap.end false e = rw e (B .follows)
+
+  pub beside-after : (p : bytemap.Call) → isSmall p ≡ true → Beside c (bytemap.after m p) (after j (asCommand c p))
+  unfolding phase memory
+  beside-after p h = record {
+    past = event j (asCommand c p) ∷ B .past;
+    tied = tied-after storeSize j (B .past) (asCommand c p) (B .tied);
+    follows = follows-after p (accepted (says j (asCommand c p))) (ap accepted (answer-same c low B p h));
+  }

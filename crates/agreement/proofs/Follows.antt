@@ -58,6 +58,15 @@ module _ {m : Map} {opened : Bool} {known : ℕ → Value} (F : Follows m opened
       both (both open-or-empty (all-pass (λ x. isHeld m x || eqb (getD (m .values) x 0) 0) (span 0 mapLimit) held-or-zero))
       (le-leb (length (runsOf m)) recordLimit (F .few))
 
+-- What the command sees at an address is the value known there once it is fetched.
+pub sees-known : {m : Map} {opened : Bool} {known : ℕ → Value} → Follows m opened known → (window : List ℕ) (x : ℕ)
+    → sees m window x ≡ recall (orElse (known x) (getD window x 0))
+sees-known {known} F window x = rw (F .held x, F .value x) (go (known x))
+  where
+    go : (v : Value) → cond (isKnown v) (recall v) (getD window x 0) ≡ recall (orElse v (getD window x 0))
+    go none = refl
+    go (first u) = refl
+
 -- A cleared map follows a memory that knows nothing.
 
 zero-word : (j : ℕ) → bit 0 j ≡ false
@@ -127,18 +136,10 @@ module _ (is-set : (test : ℕ → Bool) (x : ℕ) → x < mapLimit → isSet (w
     set-then : isSet (wordsOf (heldThen m a n)) ≡ heldThen m a n
     set-then = set-everywhere (heldThen m a n) low-then
 
-    -- what the command sees at an address is the value known there once it is fetched
-    pub sees-known : (x : ℕ) → sees m window x ≡ recall (orElse (known x) (getD window x 0))
-    sees-known x = rw (F .held x, F .value x) (go (known x))
-      where
-        go : (v : Value) → cond (isKnown v) (recall v) (getD window x 0) ≡ recall (orElse v (getD window x 0))
-        go none = refl
-        go (first u) = refl
-
     value-then : (x : ℕ) → getD (fetchedInto .values) x 0 ≡ recall (knownThen x)
     value-then x =
         overwrite-span (m .values) (sees m window) a n (omega (arith, F .size)) x
-        ∙ rw (sees-known x, F .value x) (go (inSpan a n x))
+        ∙ rw (sees-known F window x, F .value x) (go (inSpan a n x))
       where
         go : (b : Bool) → cond b (recall (orElse (known x) (getD window x 0))) (recall (known x))
             ≡ recall (cond b (orElse (known x) (getD window x 0)) (known x))
