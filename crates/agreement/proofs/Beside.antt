@@ -54,7 +54,7 @@ module _ (c : ℕ) (low : c < commandLimit) {m : Map} {j : Machine} (B : Beside 
   F = B .follows
 
   -- of an open command the map holds what it has fetched
-  held-since : openSince past c ≡ true → fetchedSince past c ≡ isHeld m
+  pub held-since : openSince past c ≡ true → fetchedSince past c ≡ isHeld m
   held-since o = fun-ext λ x. sym (F .held x ∙ rw o (memory-search past c x))
 
   low-since : (x : ℕ) → mapLimit ≤ x → isHeld m x ≡ false

@@ -1,3 +1,4 @@
 pub mod Spans
 pub mod Follows
 pub mod Beside
+pub mod Agreement

@@ -1,0 +1,137 @@
+-- The byte map and the record engine agree on every list of calls of one command.
+use Prim.Native.Nat.{ℕ, _<_}
+use mathlib.Core.Path.{_≡_, refl, ap, ap₂, sym, fun-ext, _∙_}
+use mathlib.Core.List.{List, [], _∷_, map}
+use mathlib.Core.Bool.{Bool, true, false, _&&_, _||_}
+use lib.Dec.{leb, eqb}
+use lib.ListN.{length, take, drop}
+use borrow.Author.Tests.{eqb-true}
+use Rattle.octets.specs.Lists.{count, all}
+use Rattle.octets.proofs.Lists.{and-left, and-right}
+use Rattle.state.specs.declared.Record.{Record}
+use Rattle.state.specs.Limits.{commandLimit, recordLimit, heldLimit, windowLimit, storeSize}
+use Rattle.state.specs.Records.{span, held, total}
+use Rattle.state.specs.Runs.{runs}
+use Rattle.state.specs.State.{State, commandOf, recordsIn, recordsOf, isOpen, holds, commandHolds, ascending, isZero}
+use Rattle.state.proofs.Commands.{kept, each-holds}
+use Rattle.state.proofs.Runs.{records-runs}
+use Rattle.bits.specs.Bits.{mapLimit, isSet, wordsOf, onesOf}
+use Rattle.bytemap.specs.Map.{Map, isHeld, heldCount, runsOf, fresh, isOpen as isMapOpen}
+use Rattle.bytemap.specs.Runs as bytemap
+use Rattle.cache.specs.Runs.{Call, Machine, start, along, ran, says, after, delivers, destAfter, windowAfter}
+use Rattle.history.specs.Firsts.{memory}
+use Rattle.history.specs.Stores.{phase}
+use Rattle.history.specs.Answers.{openSince}
+use Rattle.history.proofs.Stored.{memory-search, held-known}
+use Rattle.history.proofs.Tied.{tied-start}
+use Rattle.history.proofs.Answers.{total-told}
+use Rattle.agreement.specs.Agreement.{asCommand, isSmall, Agreement}
+use Rattle.agreement.proofs.Spans.{count-none, runs-none}
+use Rattle.agreement.proofs.Follows.{cleared-follows}
+use Rattle.agreement.proofs.Beside.{Beside, answer-same, dest-same, delivered-same, beside-after, held-since, count-all, runs-all}
+
+-- a closed command has no records
+closed-empty : (s : State) (c : ℕ) → holds s ≡ true → isOpen s c ≡ false → recordsOf s c ≡ []
+unfolding commandHolds
+closed-empty s c h closed =
+    let p = commandOf s c in
+    let none : (p .opened || eqb (p .count) 0) ≡ true =
+    and-right
+    (leb (p .count) recordLimit && ascending 0 (recordsIn p) && leb (total (recordsIn p)) heldLimit && all isZero (drop (p .count) (p .records)))
+    (p .opened || eqb (p .count) 0) (each-holds s c h) in
+    ap (λ (k : ℕ). take k (p .records)) (eqb-true (p .count) 0 (rw closed at none))
+
+-- What the two hold, one beside the other
+
+module _ (c : ℕ) (low : c < commandLimit) {m : Map} {j : Machine} (B : Beside c m j) where
+  pub opened-same : isMapOpen m ≡ isOpen (j .state) c
+  opened-same = B .follows .same ∙ sym (B .tied .opened c)
+
+  pub record Holds : Type 0 where
+    pub records : runsOf m ≡ recordsOf (j .state) c
+    pub bytes : heldCount m ≡ total (recordsOf (j .state) c)
+
+  holds-open : openSince (B .past) c ≡ true → Holds
+  holds-open o =
+      let past = B .past in
+      let rs = recordsOf (j .state) c in
+      let opened = B .tied .opened c ∙ o in
+      let is-held : held rs ≡ isHeld m =
+      fun-ext λ x. held-known j (memory past) (B .tied .sound) c opened x ∙ memory-search past c x ∙ ap (λ (f : ℕ → Bool). f x) (held-since c low B o) in
+      record {
+        records = sym (records-runs rs (kept (j .state) c (B .tied .sound .state .whole) .up) ∙ ap runs is-held ∙ runs-all c low B);
+        bytes =
+            B .follows .ones
+            ∙ sym
+            (total-told (B .tied) c opened ∙ ap (λ (f : ℕ → Bool). count f (span 0 windowLimit)) (held-since c low B o) ∙ count-all c low B);
+      }
+
+  holds-closed : openSince (B .past) c ≡ false → Holds
+  unfolding total
+  holds-closed o =
+      let empty = closed-empty (j .state) c (B .tied .sound .state .whole) (B .tied .opened c ∙ o) in
+      let none-held : (x : ℕ) → isHeld m x ≡ false = λ x. B .follows .held x ∙ rw o in
+      record {
+        records = rw empty (runs-none (isHeld m) 0 mapLimit (λ x h. none-held x));
+        bytes = rw empty (B .follows .ones ∙ count-none (isHeld m) 0 mapLimit (λ x h. none-held x));
+      }
+
+  pub holds-same : Holds
+  holds-same = go (openSince (B .past) c) refl
+    where
+      go : (b : Bool) → openSince (B .past) c ≡ b → Holds
+      go true o = holds-open o
+      go false o = holds-closed o
+
+-- Lists of calls
+
+module _ (is-set : (test : ℕ → Bool) (x : ℕ) → x < mapLimit → isSet (wordsOf test) x ≡ test x)
+    (ones-of : (test : ℕ → Bool) → onesOf (wordsOf test) ≡ count test (span 0 mapLimit))
+    (c : ℕ) (low : c < commandLimit) where
+  -- what is alike at one call is alike along a list
+  module _ {A : Type 0} (f : Map → bytemap.Call → A) (g : Machine → Call → A)
+      (alike : (m : Map) (j : Machine) → Beside c m j → (p : bytemap.Call) → isSmall p ≡ true → f m p ≡ g j (asCommand c p)) where
+    along-same : (m : Map) (j : Machine) (ps : List bytemap.Call) → Beside c m j → all isSmall ps ≡ true
+        → bytemap.along f m ps ≡ along g j (map (asCommand c) ps)
+    unfolding bytemap.along along all
+    along-same m j [] B h = refl
+    along-same m j (p ∷ ps) B h =
+        let small = and-left (isSmall p) (all isSmall ps) h in
+        ap₂ _∷_ (alike m j B p small)
+        (along-same (bytemap.after m p) (after j (asCommand c p)) ps (beside-after is-set ones-of c low B p small) (and-right (isSmall p) (all isSmall ps) h))
+
+  beside-ran : (m : Map) (j : Machine) (ps : List bytemap.Call) → Beside c m j → all isSmall ps ≡ true
+      → Beside c (bytemap.ran m ps) (ran j (map (asCommand c) ps))
+  unfolding bytemap.ran ran all
+  beside-ran m j [] B h = B
+  beside-ran m j (p ∷ ps) B h =
+      beside-ran (bytemap.after m p) (after j (asCommand c p)) ps
+      (beside-after is-set ones-of c low B p (and-left (isSmall p) (all isSmall ps) h))
+      (and-right (isSmall p) (all isSmall ps) h)
+
+  -- before any call
+  beside-start : (store : List ℕ) → length store ≡ storeSize → Beside c fresh (start store)
+  unfolding phase
+  beside-start store size = record { past = []; tied = rw size at (tied-start store); follows = cleared-follows 0 }
+
+  window-same : (m : Map) (j : Machine) (p : bytemap.Call) → bytemap.windowAfter m p ≡ windowAfter j (asCommand c p)
+  window-same m j bytemap.begin = refl
+  window-same m j (bytemap.fetch a n dest window) = refl
+  window-same m j bytemap.end = refl
+
+module _ (is-set : (test : ℕ → Bool) (x : ℕ) → x < mapLimit → isSet (wordsOf test) x ≡ test x)
+    (ones-of : (test : ℕ → Bool) → onesOf (wordsOf test) ≡ count test (span 0 mapLimit)) where
+  pub agreement : Agreement
+  agreement store c ps size low small =
+      let B = beside-start is-set ones-of c low store size in
+      let ran-beside = beside-ran is-set ones-of c low fresh (start store) ps B small in
+      let hold = holds-same c low ran-beside in
+      record {
+        answers = along-same is-set ones-of c low bytemap.says says (λ m j B. answer-same c low B) fresh (start store) ps B small;
+        delivered = along-same is-set ones-of c low bytemap.delivers delivers (λ m j B. delivered-same c low B) fresh (start store) ps B small;
+        destinations = along-same is-set ones-of c low bytemap.destAfter destAfter (λ m j B. dest-same c low B) fresh (start store) ps B small;
+        windows = along-same is-set ones-of c low bytemap.windowAfter windowAfter (λ m j B p h. window-same is-set ones-of c low m j p) fresh (start store) ps B small;
+        opened = opened-same c low ran-beside;
+        records = hold .records;
+        bytes = hold .bytes;
+      }
