@@ -16,6 +16,7 @@ use Rattle.state.specs.State.{State, commandOf, recordsIn, recordsOf, isOpen, h
 use Rattle.state.proofs.Commands.{kept, each-holds}
 use Rattle.state.proofs.Runs.{records-runs}
 use Rattle.bits.specs.Bits.{mapLimit, isSet, wordsOf, onesOf}
+use Rattle.bits.proofs.Counts.{count-none}
 use Rattle.bytemap.specs.Map.{Map, isHeld, heldCount, runsOf, fresh, isOpen as isMapOpen}
 use Rattle.bytemap.specs.Runs as bytemap
 use Rattle.cache.specs.Runs.{Call, Machine, start, along, ran, says, after, delivers, destAfter, windowAfter}
@@ -26,7 +27,7 @@ use Rattle.history.proofs.Stored.{memory-search, held-known}
 use Rattle.history.proofs.Tied.{tied-start}
 use Rattle.history.proofs.Answers.{total-told}
 use Rattle.agreement.specs.Agreement.{asCommand, isSmall, Agreement}
-use Rattle.agreement.proofs.Spans.{count-none, runs-none}
+use Rattle.agreement.proofs.Spans.{runs-none}
 use Rattle.agreement.proofs.Follows.{cleared-follows}
 use Rattle.agreement.proofs.Beside.{Beside, answer-same, dest-same, delivered-same, beside-after, held-since, count-all, runs-all}
 
@@ -73,7 +74,7 @@ module _ (c : ℕ) (low : c < commandLimit) {m : Map} {j : Machine} (B : Beside 
       let none-held : (x : ℕ) → isHeld m x ≡ false = λ x. B .follows .held x ∙ rw o in
       record {
         records = rw empty (runs-none (isHeld m) 0 mapLimit (λ x h. none-held x));
-        bytes = rw empty (B .follows .ones ∙ count-none (isHeld m) 0 mapLimit (λ x h. none-held x));
+        bytes = rw empty (B .follows .ones ∙ count-none (isHeld m) 0 mapLimit (λ x h k. none-held x));
       }
 
   pub holds-same : Holds
@@ -85,9 +86,7 @@ module _ (c : ℕ) (low : c < commandLimit) {m : Map} {j : Machine} (B : Beside 
 
 -- Lists of calls
 
-module _ (is-set : (test : ℕ → Bool) (x : ℕ) → x < mapLimit → isSet (wordsOf test) x ≡ test x)
-    (ones-of : (test : ℕ → Bool) → onesOf (wordsOf test) ≡ count test (span 0 mapLimit))
-    (c : ℕ) (low : c < commandLimit) where
+module _ (c : ℕ) (low : c < commandLimit) where
   -- what is alike at one call is alike along a list
   module _ {A : Type 0} (f : Map → bytemap.Call → A) (g : Machine → Call → A)
       (alike : (m : Map) (j : Machine) → Beside c m j → (p : bytemap.Call) → isSmall p ≡ true → f m p ≡ g j (asCommand c p)) where
@@ -98,7 +97,7 @@ module _ (is-set : (test : ℕ → Bool) (x : ℕ) → x < mapLimit → isSet (w
     along-same m j (p ∷ ps) B h =
         let small = and-left (isSmall p) (all isSmall ps) h in
         ap₂ _∷_ (alike m j B p small)
-        (along-same (bytemap.after m p) (after j (asCommand c p)) ps (beside-after is-set ones-of c low B p small) (and-right (isSmall p) (all isSmall ps) h))
+        (along-same (bytemap.after m p) (after j (asCommand c p)) ps (beside-after c low B p small) (and-right (isSmall p) (all isSmall ps) h))
 
   beside-ran : (m : Map) (j : Machine) (ps : List bytemap.Call) → Beside c m j → all isSmall ps ≡ true
       → Beside c (bytemap.ran m ps) (ran j (map (asCommand c) ps))
@@ -106,7 +105,7 @@ module _ (is-set : (test : ℕ → Bool) (x : ℕ) → x < mapLimit → isSet (w
   beside-ran m j [] B h = B
   beside-ran m j (p ∷ ps) B h =
       beside-ran (bytemap.after m p) (after j (asCommand c p)) ps
-      (beside-after is-set ones-of c low B p (and-left (isSmall p) (all isSmall ps) h))
+      (beside-after c low B p (and-left (isSmall p) (all isSmall ps) h))
       (and-right (isSmall p) (all isSmall ps) h)
 
   -- before any call
@@ -119,19 +118,17 @@ module _ (is-set : (test : ℕ → Bool) (x : ℕ) → x < mapLimit → isSet (w
   window-same m j (bytemap.fetch a n dest window) = refl
   window-same m j bytemap.end = refl
 
-module _ (is-set : (test : ℕ → Bool) (x : ℕ) → x < mapLimit → isSet (wordsOf test) x ≡ test x)
-    (ones-of : (test : ℕ → Bool) → onesOf (wordsOf test) ≡ count test (span 0 mapLimit)) where
-  pub agreement : Agreement
-  agreement store c ps size low small =
-      let B = beside-start is-set ones-of c low store size in
-      let ran-beside = beside-ran is-set ones-of c low fresh (start store) ps B small in
-      let hold = holds-same c low ran-beside in
-      record {
-        answers = along-same is-set ones-of c low bytemap.says says (λ m j B. answer-same c low B) fresh (start store) ps B small;
-        delivered = along-same is-set ones-of c low bytemap.delivers delivers (λ m j B. delivered-same c low B) fresh (start store) ps B small;
-        destinations = along-same is-set ones-of c low bytemap.destAfter destAfter (λ m j B. dest-same c low B) fresh (start store) ps B small;
-        windows = along-same is-set ones-of c low bytemap.windowAfter windowAfter (λ m j B p h. window-same is-set ones-of c low m j p) fresh (start store) ps B small;
-        opened = opened-same c low ran-beside;
-        records = hold .records;
-        bytes = hold .bytes;
-      }
+pub agreement : Agreement
+agreement store c ps size low small =
+    let B = beside-start c low store size in
+    let ran-beside = beside-ran c low fresh (start store) ps B small in
+    let hold = holds-same c low ran-beside in
+    record {
+      answers = along-same c low bytemap.says says (λ m j B. answer-same c low B) fresh (start store) ps B small;
+      delivered = along-same c low bytemap.delivers delivers (λ m j B. delivered-same c low B) fresh (start store) ps B small;
+      destinations = along-same c low bytemap.destAfter destAfter (λ m j B. dest-same c low B) fresh (start store) ps B small;
+      windows = along-same c low bytemap.windowAfter windowAfter (λ m j B p h. window-same c low m j p) fresh (start store) ps B small;
+      opened = opened-same c low ran-beside;
+      records = hold .records;
+      bytes = hold .bytes;
+    }

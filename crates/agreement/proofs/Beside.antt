@@ -182,9 +182,7 @@ module _ (c : ℕ) (low : c < commandLimit) {m : Map} {j : Machine} (B : Beside 
 
 -- After the call
 
-module _ (is-set : (test : ℕ → Bool) (x : ℕ) → x < mapLimit → isSet (wordsOf test) x ≡ test x)
-    (ones-of : (test : ℕ → Bool) → onesOf (wordsOf test) ≡ count test (span 0 mapLimit))
-    (c : ℕ) (low : c < commandLimit) {m : Map} {j : Machine} (B : Beside c m j) where
+module _ (c : ℕ) (low : c < commandLimit) {m : Map} {j : Machine} (B : Beside c m j) where
   abbrev FollowsThen : bytemap.Call → Bool → Type 0
   FollowsThen p b =
       Follows (bytemap.after m p) (isRunning (phaseBy (deedOf b (asCommand c p)) c (phase (B .past) c)))
@@ -196,7 +194,7 @@ module _ (is-set : (test : ℕ → Bool) (x : ℕ) → x < mapLimit → isSet (w
   follows-after bytemap.begin false e = rw e (B .follows)
   follows-after (bytemap.fetch a n dest window) true e =
       let t = taken c low B a n dest window e in
-      rw (e, t .opened, eq-eqb c c refl) (fetch-follows is-set ones-of (follows-open c low B a n dest window (t .opened)) window dest a n (t .fits) (t .room))
+      rw (e, t .opened, eq-eqb c c refl) (fetch-follows (follows-open c low B a n dest window (t .opened)) window dest a n (t .fits) (t .room))
   follows-after (bytemap.fetch a n dest window) false e = rw e (B .follows)
   follows-after bytemap.end true e = rw (e, eq-eqb c c refl) (cleared-follows 0)
   follows-after bytemap.end false e = rw e (B .follows)

@@ -18,10 +18,12 @@ use Rattle.state.specs.Records.{inSpan, span}
 use Rattle.state.specs.Runs.{runsFrom}
 use Rattle.state.proofs.Places.{length-span}
 use Rattle.bits.specs.Bits.{wordLimit, mapLimit, bit, isSet, wordOf, wordsOf, onesOf}
+use Rattle.bits.proofs.Counts.{count-none}
+use Rattle.bits.proofs.Words.{words-set, ones-of-words, length-words}
 use Rattle.bytemap.specs.Map.{Map, isOpen, isHeld, heldCount, runsOf, cleared, isEmpty, isClean, holds}
 use Rattle.bytemap.specs.Fetch.{heldThen, runsThen, sees, seen}
 use Rattle.history.specs.Firsts.{Value, none, first, orElse, isKnown, recall}
-use Rattle.agreement.proofs.Spans.{all-pass, count-none, runs-none, overwrite-span}
+use Rattle.agreement.proofs.Spans.{all-pass, runs-none, overwrite-span}
 
 pub record Follows (m : Map) (opened : Bool) (known : ℕ → Value) : Type 0 where
   pub same : isOpen m ≡ opened
@@ -87,79 +89,73 @@ cleared-follows flag = record {
   low = λ x h. refl;
   value = λ x. getD-same mapLimit x 0;
   size = length-replicate {A = ℕ} mapLimit 0;
-  ones = zero-ones wordLimit ∙ sym (count-none (isSet (replicate wordLimit 0)) 0 mapLimit (λ y h. zero-words wordLimit y));
+  ones = zero-ones wordLimit ∙ sym (count-none (isSet (replicate wordLimit 0)) 0 mapLimit (λ y h k. zero-words wordLimit y));
   empty = λ e. all-replicate (λ w. eqb w 0) wordLimit 0 refl;
   few = omega (arith, ap length (runs-none (isSet (replicate wordLimit 0)) 0 mapLimit (λ y h. zero-words wordLimit y)));
 }
 
-words-length : (test : ℕ → Bool) → length (wordsOf test) ≡ wordLimit
-unfolding wordsOf
-words-length test = length-map (span 0 wordLimit) (λ i. wordOf (λ j. test (64 * i + j)) 64) ∙ length-span 0 wordLimit
-
 -- The words of a test that no address from 4,096 on passes have its bits at every address.
 
-module _ (is-set : (test : ℕ → Bool) (x : ℕ) → x < mapLimit → isSet (wordsOf test) x ≡ test x)
-    (ones-of : (test : ℕ → Bool) → onesOf (wordsOf test) ≡ count test (span 0 mapLimit)) where
-  set-beyond : (test : ℕ → Bool) (x : ℕ) → mapLimit ≤ x → isSet (wordsOf test) x ≡ false
-  set-beyond test x h = rw (List·getD-eq-default (wordsOf test) 0 {n = x / 64} (omega (arith, words-length test))) (zero-word (x % 64))
+set-beyond : (test : ℕ → Bool) (x : ℕ) → mapLimit ≤ x → isSet (wordsOf test) x ≡ false
+set-beyond test x h = rw (List·getD-eq-default (wordsOf test) 0 {n = x / 64} (omega (arith, length-words test))) (zero-word (x % 64))
 
-  set-everywhere : (test : ℕ → Bool) → ((x : ℕ) → mapLimit ≤ x → test x ≡ false) → isSet (wordsOf test) ≡ test
-  set-everywhere test none-beyond = fun-ext λ x. go x (ltb x mapLimit) refl
+set-everywhere : (test : ℕ → Bool) → ((x : ℕ) → mapLimit ≤ x → test x ≡ false) → isSet (wordsOf test) ≡ test
+set-everywhere test none-beyond = fun-ext λ x. go x (ltb x mapLimit) refl
+  where
+    go : (x : ℕ) (b : Bool) → ltb x mapLimit ≡ b → isSet (wordsOf test) x ≡ test x
+    go x true e = words-set test x (ltb-true x mapLimit e)
+    go x false e = let far = ltb-false x mapLimit e in set-beyond test x far ∙ sym (none-beyond x far)
+
+-- After a fetch the map follows the memory with the span in it.
+
+module _ {m : Map} {known : ℕ → Value} (F : Follows m true known) (window dest : List ℕ) (a n : ℕ)
+    (fits : a + n ≤ mapLimit) (room : length (runsThen m a n) ≤ recordLimit) where
+  abbrev fetchedInto : Map
+  fetchedInto = record { flag = m .flag; words = wordsOf (heldThen m a n); values = overwrite (m .values) a (seen m window dest a n) }
+
+  abbrev knownThen : ℕ → Value
+  knownThen x = cond (inSpan a n x) (orElse (known x) (getD window x 0)) (known x)
+
+  -- an address is known then exactly if it was or if it is in the span
+  known-or-in : (x : ℕ) → heldThen m a n x ≡ isKnown (knownThen x)
+  known-or-in x = rw (F .held x) (go (known x) (inSpan a n x))
     where
-      go : (x : ℕ) (b : Bool) → ltb x mapLimit ≡ b → isSet (wordsOf test) x ≡ test x
-      go x true e = is-set test x (ltb-true x mapLimit e)
-      go x false e = let far = ltb-false x mapLimit e in set-beyond test x far ∙ sym (none-beyond x far)
+      go : (v : Value) (b : Bool) → (isKnown v || b) ≡ isKnown (cond b (orElse v (getD window x 0)) v)
+      go none true = refl
+      go none false = refl
+      go (first u) true = refl
+      go (first u) false = refl
 
-  -- After a fetch the map follows the memory with the span in it.
+  low-then : (x : ℕ) → mapLimit ≤ x → heldThen m a n x ≡ false
+  low-then x far = rw (F .held x, F .low x far, le-ltb x (a + n) (omega arith)) (and-false (leb a x))
 
-  module _ {m : Map} {known : ℕ → Value} (F : Follows m true known) (window dest : List ℕ) (a n : ℕ)
-      (fits : a + n ≤ mapLimit) (room : length (runsThen m a n) ≤ recordLimit) where
-    abbrev fetchedInto : Map
-    fetchedInto = record { flag = m .flag; words = wordsOf (heldThen m a n); values = overwrite (m .values) a (seen m window dest a n) }
+  set-then : isSet (wordsOf (heldThen m a n)) ≡ heldThen m a n
+  set-then = set-everywhere (heldThen m a n) low-then
 
-    abbrev knownThen : ℕ → Value
-    knownThen x = cond (inSpan a n x) (orElse (known x) (getD window x 0)) (known x)
+  value-then : (x : ℕ) → getD (fetchedInto .values) x 0 ≡ recall (knownThen x)
+  value-then x =
+      overwrite-span (m .values) (sees m window) a n (omega (arith, F .size)) x
+      ∙ rw (sees-known F window x, F .value x) (go (inSpan a n x))
+    where
+      go : (b : Bool) → cond b (recall (orElse (known x) (getD window x 0))) (recall (known x))
+          ≡ recall (cond b (orElse (known x) (getD window x 0)) (known x))
+      go true = refl
+      go false = refl
 
-    -- an address is known then exactly if it was or if it is in the span
-    known-or-in : (x : ℕ) → heldThen m a n x ≡ isKnown (knownThen x)
-    known-or-in x = rw (F .held x) (go (known x) (inSpan a n x))
-      where
-        go : (v : Value) (b : Bool) → (isKnown v || b) ≡ isKnown (cond b (orElse v (getD window x 0)) v)
-        go none true = refl
-        go none false = refl
-        go (first u) true = refl
-        go (first u) false = refl
+  size-then : length (fetchedInto .values) ≡ mapLimit
+  size-then =
+      length-overwrite (m .values) (seen m window dest a n) a
+      (omega (arith, F .size, length-map (span a n) (sees m window), length-span a n))
+      ∙ F .size
 
-    low-then : (x : ℕ) → mapLimit ≤ x → heldThen m a n x ≡ false
-    low-then x far = rw (F .held x, F .low x far, le-ltb x (a + n) (omega arith)) (and-false (leb a x))
-
-    set-then : isSet (wordsOf (heldThen m a n)) ≡ heldThen m a n
-    set-then = set-everywhere (heldThen m a n) low-then
-
-    value-then : (x : ℕ) → getD (fetchedInto .values) x 0 ≡ recall (knownThen x)
-    value-then x =
-        overwrite-span (m .values) (sees m window) a n (omega (arith, F .size)) x
-        ∙ rw (sees-known F window x, F .value x) (go (inSpan a n x))
-      where
-        go : (b : Bool) → cond b (recall (orElse (known x) (getD window x 0))) (recall (known x))
-            ≡ recall (cond b (orElse (known x) (getD window x 0)) (known x))
-        go true = refl
-        go false = refl
-
-    size-then : length (fetchedInto .values) ≡ mapLimit
-    size-then =
-        length-overwrite (m .values) (seen m window dest a n) a
-        (omega (arith, F .size, length-map (span a n) (sees m window), length-span a n))
-        ∙ F .size
-
-    pub fetch-follows : Follows fetchedInto true knownThen
-    fetch-follows = record {
-      same = F .same;
-      held = λ x. ap (λ (f : ℕ → Bool). f x) set-then ∙ known-or-in x;
-      low = λ x far. sym (known-or-in x) ∙ low-then x far;
-      value = value-then;
-      size = size-then;
-      ones = ones-of (heldThen m a n) ∙ ap (λ (f : ℕ → Bool). count f (span 0 mapLimit)) (sym set-then);
-      empty = λ e. absurd (false≢true (sym e));
-      few = rw set-then room;
-    }
+  pub fetch-follows : Follows fetchedInto true knownThen
+  fetch-follows = record {
+    same = F .same;
+    held = λ x. ap (λ (f : ℕ → Bool). f x) set-then ∙ known-or-in x;
+    low = λ x far. sym (known-or-in x) ∙ low-then x far;
+    value = value-then;
+    size = size-then;
+    ones = ones-of-words (heldThen m a n) ∙ ap (λ (f : ℕ → Bool). count f (span 0 mapLimit)) (sym set-then);
+    empty = λ e. absurd (false≢true (sym e));
+    few = rw set-then room;
+  }

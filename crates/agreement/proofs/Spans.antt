@@ -12,7 +12,8 @@ use Rattle.octets.specs.Lists.{count, all, overwrite}
 use Rattle.octets.proofs.Overwrite.{overwrite-inside, overwrite-below, overwrite-above}
 use Rattle.state.specs.Records.{inSpan, span}
 use Rattle.state.specs.Runs.{runsFrom}
-use Rattle.state.proofs.Places.{length-span, span-append, span-at}
+use Rattle.state.proofs.Places.{length-span, span-at}
+use Rattle.bits.proofs.Counts.{count-split, count-none}
 
 -- a test that every element passes
 pub all-pass : {A : Type 0} (test : A → Bool) (xs : List A) → ((x : A) → test x ≡ true) → all test xs ≡ true
@@ -21,11 +22,6 @@ all-pass test [] h = refl
 all-pass test (x ∷ xs) h = rw (h x) (all-pass test xs h)
 
 -- Counts
-
-pub count-append : (test : ℕ → Bool) (xs ys : List ℕ) → count test (xs ++ ys) ≡ count test xs + count test ys
-unfolding count
-count-append test [] ys = omega arith
-count-append test (x ∷ xs) ys = omega (arith, count-append test xs ys)
 
 -- an element passes or it does not
 count-both : (test : ℕ → Bool) (xs : List ℕ) → count test xs + count (λ x. not (test x)) xs ≡ length xs
@@ -41,15 +37,13 @@ count-both test (x ∷ xs) = go (test x) (count test xs) (count (λ y. not (test
 count-within : (test : ℕ → Bool) (a n k : ℕ) → a + n ≤ k → count test (span a n) ≤ count test (span 0 k)
 count-within test a n k fits =
     let rest = k - (a + n) in
-    let parts : span 0 (a + n + rest) ≡ span 0 a ++ span a n ++ span (a + n) rest =
-    span-append 0 (a + n) rest ∙ rw (zero-add, span-append 0 a n, zero-add) in
     let whole : a + n + rest ≡ k = omega arith in
     omega (
       arith,
-      ap (λ (j : ℕ). count test (span 0 j)) whole,
-      ap (count test) parts,
-      count-append test (span 0 a ++ span a n) (span (a + n) rest),
-      count-append test (span 0 a) (span a n),
+      ap (λ (l : ℕ). count test (span 0 l)) whole,
+      count-split test 0 (a + n) rest,
+      count-split test 0 a n,
+      ap (λ (x : ℕ). count test (span x n)) (zero-add a),
     )
 
 -- those that pass among the first k addresses and those of a span within them that do not are no more than k
@@ -59,11 +53,6 @@ count-room test a n k fits = omega (arith, count-within (λ x. not (test x)) a n
 -- From a bound on no address passes.
 
 module _ (test : ℕ → Bool) where
-  pub count-none : (x n : ℕ) → ((y : ℕ) → x ≤ y → test y ≡ false) → count test (span x n) ≡ 0
-  unfolding count span
-  count-none x zero h = refl
-  count-none x (suc n) h = rw (h x (omega arith)) (omega (arith, count-none (suc x) n (λ y k. h y (omega arith))))
-
   pub runs-none : (x n : ℕ) → ((y : ℕ) → x ≤ y → test y ≡ false) → runsFrom test x n ≡ []
   unfolding runsFrom
   runs-none x zero h = refl
@@ -71,8 +60,7 @@ module _ (test : ℕ → Bool) where
 
   -- the first k addresses have them all
   pub count-low : (x k more : ℕ) → ((y : ℕ) → x + k ≤ y → test y ≡ false) → count test (span x (k + more)) ≡ count test (span x k)
-  count-low x k more h =
-      omega (arith, ap (count test) (span-append x k more), count-append test (span x k) (span (x + k) more), count-none (x + k) more h)
+  count-low x k more h = omega (arith, count-split test x k more, count-none test (x + k) more (λ y low high. h y low))
 
   pub runs-low : (x k more : ℕ) → ((y : ℕ) → x + k ≤ y → test y ≡ false) → runsFrom test x (k + more) ≡ runsFrom test x k
   unfolding runsFrom
