@@ -1,26 +1,25 @@
 -- A byte map that follows a memory: it holds just the addresses that the memory knows, each with the value known there. Begin, fetch and end
 -- each leave one that follows.
-use Prim.Native.Nat.{ℕ, zero, suc, _+_, _*_, _≤_, _<_, _/_, _%_, _^_}
+use Prim.Native.Nat.{ℕ, zero, suc, _+_, _≤_, _/_, _%_, _^_}
 use native.Mathlib.Omega.{arith}
-use native.Mathlib.Nat.{zero-div, zero-mod}
+use native.Mathlib.Nat.{zero-div}
 use mathlib.Core.Path.{_≡_, refl, ap, sym, fun-ext, _∙_}
-use mathlib.Core.List.{List, [], _∷_, map}
-use mathlib.Core.Bool.{Bool, true, false, false≢true, cond, _&&_, _||_, and-false}
-use lib.Count.{ones, onesIn}
+use mathlib.Core.List.{List}
+use mathlib.Core.Bool.{Bool, true, false, false≢true, cond, _||_, and-false}
+use lib.Count.{ones}
 use lib.Dec.{leb, ltb, eqb}
 use lib.ListN.{length, getD, replicate, length-map, length-replicate, List·getD-eq-default}
-use borrow.Author.Tests.{leb-true, le-leb, ltb-true, ltb-false, le-ltb}
-use Rattle.octets.specs.Lists.{count, all, overwrite}
+use borrow.Author.Tests.{le-leb, ltb-true, ltb-false, le-ltb}
+use Rattle.octets.specs.Lists.{count, overwrite}
 use Rattle.octets.proofs.Lists.{both, all-replicate, getD-same}
 use Rattle.octets.proofs.Overwrite.{length-overwrite}
 use Rattle.state.specs.Limits.{recordLimit}
 use Rattle.state.specs.Records.{inSpan, span}
-use Rattle.state.specs.Runs.{runsFrom}
 use Rattle.state.proofs.Places.{length-span}
-use Rattle.bits.specs.Bits.{wordLimit, mapLimit, bit, isSet, wordOf, wordsOf, onesOf}
+use Rattle.bits.specs.Bits.{wordLimit, mapLimit, bit, isSet, wordsOf, onesOf}
 use Rattle.bits.proofs.Counts.{count-none}
 use Rattle.bits.proofs.Words.{words-set, ones-of-words, length-words}
-use Rattle.bytemap.specs.Map.{Map, isOpen, isHeld, heldCount, runsOf, cleared, isEmpty, isClean, holds}
+use Rattle.bytemap.specs.Map.{Map, isOpen, isHeld, heldCount, runsOf, cleared, isEmpty, holds}
 use Rattle.bytemap.specs.Fetch.{heldThen, runsThen, sees, seen}
 use Rattle.history.specs.Firsts.{Value, none, first, orElse, isKnown, recall}
 use Rattle.agreement.proofs.Spans.{all-pass, runs-none, overwrite-span}

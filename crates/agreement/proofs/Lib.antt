@@ -1,4 +1,5 @@
 pub mod Spans
 pub mod Follows
 pub mod Beside
+pub mod After
 pub mod Agreement
