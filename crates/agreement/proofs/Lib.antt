@@ -3,3 +3,4 @@ pub mod Follows
 pub mod Beside
 pub mod After
 pub mod Agreement
+pub mod Uses
