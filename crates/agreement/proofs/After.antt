@@ -64,7 +64,7 @@ records-see {j} T c o window x =
 -- and so it is what the byte map's command sees there
 spans-same :
     {c : ℕ} {m : Map} {j : Machine} (B : Beside c m j) (a n : ℕ) (dest window : List ℕ) → openSince (B .past) c ≡ true
-    → seen m window dest a n ≡ map (seesByRecords (recordsOf (j .state) c) (location (j .state) c) (j .store) (byteAt window)) (span a n)
+    → seen m window a n ≡ map (seesByRecords (recordsOf (j .state) c) (location (j .state) c) (j .store) (byteAt window)) (span a n)
 spans-same {c} B a n dest window o =
     ap (λ (f : ℕ → ℕ). map f (span a n))
     (fun-ext λ x. sees-known (follows-open B o) window x ∙ sym (records-see (B .tied) c (B .tied .opened c ∙ o) window x))

@@ -110,7 +110,7 @@ set-everywhere test none-beyond = fun-ext λ x. go x (ltb x mapLimit) refl
 module _ {m : Map} {known : ℕ → Value} (F : Follows m true known) (window dest : List ℕ) (a n : ℕ)
     (fits : a + n ≤ mapLimit) (room : length (runsThen m a n) ≤ recordLimit) where
   abbrev fetchedInto : Map
-  fetchedInto = record { flag = m .flag; words = wordsOf (heldThen m a n); values = overwrite (m .values) a (seen m window dest a n) }
+  fetchedInto = record { flag = m .flag; words = wordsOf (heldThen m a n); values = overwrite (m .values) a (seen m window a n) }
 
   abbrev knownThen : ℕ → Value
   knownThen x = cond (inSpan a n x) (orElse (known x) (getD window x 0)) (known x)
@@ -143,7 +143,7 @@ module _ {m : Map} {known : ℕ → Value} (F : Follows m true known) (window de
 
   size-then : length (fetchedInto .values) ≡ mapLimit
   size-then =
-      length-overwrite (m .values) (seen m window dest a n) a
+      length-overwrite (m .values) (seen m window a n) a
       (omega (arith, F .size, length-map (span a n) (sees m window), length-span a n))
       ∙ F .size
 
