@@ -1,18 +1,18 @@
 -- What the operations on words do to their bits: and, or, not, a shift by one with a bit put in below, the highest bit, and masks.
 use Prim.Native.Nat.{ℕ, zero, suc, _+_, _-_, _*_, _/_, _%_, _^_, _≤_, _<_, min, max}
 use native.Mathlib.Omega.{arith}
-use native.Mathlib.Nat.{pow-suc, mod-lt, mod-eq-of-lt, div-lt-iff-lt-mul, zero-min, suc-min-suc, min-zero}
+use native.Mathlib.Nat.{pow-suc, mod-eq-of-lt, div-lt-iff-lt-mul, zero-min, suc-min-suc, min-zero}
 use mathlib.Core.Path.{_≡_, refl, sym, ap, ap₂, _∙_}
-use mathlib.Core.Bool.{Bool, true, false, cond, not, _&&_, _||_, or-false}
+use mathlib.Core.Bool.{Bool, true, false, not, _&&_, _||_, or-false}
 use lib.Arith.{mod-mul}
 use lib.Bits.{bitAnd, bitOr, and-step, or-step, and-shr, or-shr, and-lt, or-lt}
-use lib.Dec.{ltb, leb, eqb, leb·suc-suc, leb·zero}
+use lib.Dec.{ltb, leb, eqb, leb·suc-suc}
 use lib.Pow.{pow-pos, pow-lt}
 use borrow.Author.Tests.{ltb-true, ltb-false, le-ltb, lt-ltb, le-leb, lt-leb}
 use Rattle.state.specs.Records.{inSpan}
 use Rattle.state.proofs.Cases.{leb-same}
 use Rattle.bits.specs.Bits.{bit, wordOf, lower}
-use Rattle.bits.proofs.Word.{digit, digit-small, digit-odd, lowest-digit, bit-lowest, bit-higher, word-odd, word-half, word-below, word-bit, word-same, same-bits}
+use Rattle.bits.proofs.Word.{digit, digit-small, digit-odd, bit-lowest, bit-higher, word-below, word-bit, word-same, same-bits}
 
 -- a digit of 0 or 1 as a bit
 data Digit : ℕ → Type 0 where
@@ -165,7 +165,11 @@ word-mask low high k h fits =
     let last : min high k ≡ high = omega arith in
     let lows : wordOf (λ j. ltb j low) k ≡ 2 ^ low - 1 = word-first low k ∙ ap (λ (n : ℕ). 2 ^ n - 1) first in
     let highs : wordOf (λ j. ltb j high) k ≡ 2 ^ high - 1 = word-first high k ∙ ap (λ (n : ℕ). 2 ^ n - 1) last in
-    omega (arith, word-add (λ j. leb low j && ltb j high) (λ j. ltb j low) (λ j. ltb j high) k (between-first low high h), lows, highs, pow-pos low, pow-pos high)
+    let sum = word-add (λ j. leb low j && ltb j high) (λ j. ltb j low) (λ j. ltb j high) k (between-first low high h) in
+    omega (arith, sum, lows, highs, pow-pos low, pow-pos high)
+
+pub bit-mask : (low high k j : ℕ) → low ≤ high → high ≤ k → j < k → bit (2 ^ high - 2 ^ low) j ≡ (leb low j && ltb j high)
+bit-mask low high k j h fits i = ap (λ (w : ℕ). bit w j) (sym (word-mask low high k h fits)) ∙ word-bit (λ j. leb low j && ltb j high) k j i
 
 -- the code's word of the places below n
 pub first-shifted : (n k : ℕ) → n < k → 1 * 2 ^ n % 2 ^ k ≡ 2 ^ n

@@ -1,5 +1,5 @@
 -- Laws of a span's bits among those of a map: word by word they are counted, and put to those that are set.
-use Prim.Native.Nat.{ℕ, zero, suc, _+_, _-_, _*_, _/_, _≤_, _<_}
+use Prim.Native.Nat.{ℕ, _+_, _-_, _*_, _/_, _≤_, _<_}
 use native.Mathlib.Omega.{arith}
 use mathlib.Core.Path.{_≡_, refl, sym, ap, ap₂, _∙_}
 use mathlib.Core.List.{List}
@@ -12,7 +12,7 @@ use lib.Seq.{ext-getD, getD-set-same, getD-set-other}
 use borrow.Author.Tests.{ltb-true, ltb-false, eqb-true, eqb-false, lt-leb, le-ltb}
 use Rattle.octets.specs.Lists.{count}
 use Rattle.state.specs.Records.{span, inSpan}
-use Rattle.bits.specs.Bits.{wordLimit, mapLimit, isSet, wordsOf}
+use Rattle.bits.specs.Bits.{wordLimit, isSet, wordsOf}
 use Rattle.bits.proofs.Word.{word-same}
 use Rattle.bits.proofs.Operations.{word-and, word-or}
 use Rattle.bits.proofs.Counts.{count-none, count-within}

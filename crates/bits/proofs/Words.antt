@@ -1,14 +1,14 @@
 -- Laws of the words of a map: their bits are those of the test that they were made from, words are those of their bits, and the ones of all
 -- words are the addresses that pass.
-use Prim.Native.Nat.{ℕ, zero, suc, _+_, _-_, _*_, _/_, _%_, _^_, _≤_, _<_}
+use Prim.Native.Nat.{ℕ, zero, suc, _+_, _-_, _*_, _/_, _%_, _^_, _<_}
 use native.Mathlib.Omega.{arith}
-use native.Mathlib.Nat.{zero-add, add-zero}
+use native.Mathlib.Nat.{zero-add}
 use mathlib.Core.Path.{_≡_, refl, sym, ap, ap₂, _∙_}
-use mathlib.Core.List.{List, [], _∷_, _++_, map, append-nil}
-use mathlib.Core.Bool.{Bool, true, false, cond, _&&_, _||_}
+use mathlib.Core.List.{List, [], map, append-nil}
+use mathlib.Core.Bool.{Bool, true}
 use lib.Count.{ones, ones-step}
-use lib.Dec.{ltb, leb, eqb}
-use lib.ListN.{length, getD, take, drop, length-map}
+use lib.Dec.{ltb, eqb}
+use lib.ListN.{length, getD, length-map}
 use lib.Seq.{take-all}
 use borrow.Author.Tests.{ltb-true, lt-ltb, eq-eqb, eqb-true}
 use Rattle.octets.specs.Lists.{count, all}

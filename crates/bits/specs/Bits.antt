@@ -1,13 +1,12 @@
 -- Bits of words: one for each address, 64 in a word, the lowest address in the lowest bit (request F-2 of 02, the agreed changes;
 -- docs/RULES.md has its rules).
 use Prim.Native.Nat.{ℕ, zero, suc, _+_, _*_, _/_, _%_, _^_}
-use mathlib.Core.Path.{_≡_}
 use mathlib.Core.List.{List, [], _∷_, map}
 use mathlib.Core.Bool.{Bool, cond, not, _&&_}
 use lib.Dec.{ltb, eqb}
 use lib.Count.{ones}
 use lib.ListN.{length, getD}
-use Rattle.octets.specs.Lists.{count, all}
+use Rattle.octets.specs.Lists.{all}
 use Rattle.state.specs.Records.{span}
 
 -- how many words there are, and how many addresses

@@ -1,7 +1,7 @@
 -- The addresses of the span that are set and lie below word i are counted.
-use Prim.Native.Nat.{ℕ, _+_, _-_, _*_, _≤_}
+use Prim.Native.Nat.{_-_, _*_, _≤_}
 use native.Mathlib.Omega.{arith}
-use mathlib.Core.Path.{_≡_, sym, ap, _∙_}
+use mathlib.Core.Path.{_≡_, sym, _∙_}
 use borrow.Author.Needs.{needs}
 use denote.Ref.{now}
 use Rattle.octets.specs.Lists.{count}
@@ -34,7 +34,8 @@ loop-again : tie.Need-loop-again Inv-loop μ-loop
 loop-again c =
     let l = c .before .before .before .before in
     let a = l .before .before .args in
-    let more = inner-more (now (a .words)) (known (l .before)) (a .low) (a .high) (omega arith) (l .loop .i) (c .before .span-bits .result) (c .before .span-bits .ensures) in
+    let mask = c .before .span-bits in
+    let more = inner-more (now (a .words)) (known (l .before)) (a .low) (a .high) (omega arith) (l .loop .i) (mask .result) (mask .ensures) in
     (omega arith, omega (arith, more, l .loop .inv .1, c .tally .ensures .0))
 
 returns : tie.Need-returns Inv-loop μ-loop

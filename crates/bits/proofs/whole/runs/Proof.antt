@@ -2,7 +2,6 @@
 use Prim.Native.Nat.{_-_, _≤_}
 use native.Mathlib.Omega.{arith}
 use mathlib.Core.Path.{sym}
-use borrow.Author.Needs.{needs}
 use denote.Ref.{now}
 use Rattle.bits.specs.Bits.{isSet}
 use Rattle.bits.proofs.Words.{Words, word-read}
