@@ -1,3 +1,7 @@
 pub mod Word
+pub mod Operations
 pub mod Counts
 pub mod Words
+pub mod Starts
+pub mod Spans
+pub mod Zero

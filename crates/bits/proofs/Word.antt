@@ -1,11 +1,10 @@
 -- Laws of one word: its bits, the word of a test, words with the same bits, and what the operations on words do to their bits.
-use Prim.Native.Nat.{ℕ, zero, suc, _+_, _-_, _*_, _/_, _%_, _^_, _≤_, _<_, min, max}
+use Prim.Native.Nat.{ℕ, zero, suc, _-_, _*_, _/_, _%_, _^_, _≤_, _<_}
 use native.Mathlib.Omega.{arith}
 use native.Mathlib.Nat.{div-one, div-div-eq-div-mul, mul-comm, pow-suc, not-suc-le-zero}
-use mathlib.Core.Path.{_≡_, refl, sym, ap, ap₂, _∙_}
-use mathlib.Core.Bool.{Bool, true, false, cond, not, _&&_, _||_}
+use mathlib.Core.Path.{_≡_, refl, sym, ap, _∙_}
+use mathlib.Core.Bool.{Bool, true, false, cond}
 use lib.Arith.{lt-one}
-use lib.Bits.{bitAnd, bitOr, and-step, or-step, and-shr, or-shr}
 use lib.Dec.{eqb}
 use Rattle.bits.specs.Bits.{bit, wordOf}
 
@@ -17,7 +16,7 @@ pub digit-small : (b : Bool) → digit b ≤ 1
 digit-small true = omega arith
 digit-small false = omega arith
 
-digit-odd : (b : Bool) → eqb (digit b) 1 ≡ b
+pub digit-odd : (b : Bool) → eqb (digit b) 1 ≡ b
 digit-odd true = refl
 digit-odd false = refl
 
@@ -29,7 +28,7 @@ pub bit-higher : (w j : ℕ) → bit w (suc j) ≡ bit (w / 2) j
 bit-higher w j = rw (pow-suc 2 j, mul-comm (2 ^ j) 2, ← div-div-eq-div-mul w 2 (2 ^ j))
 
 -- the digit of the lowest bit
-lowest-digit : (w : ℕ) → digit (bit w 0) ≡ w % 2
+pub lowest-digit : (w : ℕ) → digit (bit w 0) ≡ w % 2
 lowest-digit w = rw (bit-lowest w) (go (w % 2) (omega arith))
   where
     go : (d : ℕ) → d < 2 → digit (eqb d 1) ≡ d
@@ -75,13 +74,3 @@ word-of-bits w (suc k) h =
 
 pub same-bits : (v w k : ℕ) → v < 2 ^ k → w < 2 ^ k → ((j : ℕ) → j < k → bit v j ≡ bit w j) → v ≡ w
 same-bits v w k small small′ same = sym (word-of-bits v k small) ∙ word-same (bit v) (bit w) k same ∙ word-of-bits w k small′
-
--- the bits of a bitwise and, of a bitwise or and of a bitwise not
-module _ (f g : ℕ → Bool) where
-  digit-both : (a b : Bool) → min (digit a) (digit b) ≡ digit (a && b)
-  digit-both true b = omega (arith, digit-small b)
-  digit-both false b = omega arith
-
-  digit-either : (a b : Bool) → max (digit a) (digit b) ≡ digit (a || b)
-  digit-either true b = omega (arith, digit-small b)
-  digit-either false b = omega arith

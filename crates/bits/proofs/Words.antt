@@ -1,14 +1,14 @@
 -- Laws of the words of a map: their bits are those of the test that they were made from, words are those of their bits, and the ones of all
 -- words are the addresses that pass.
-use Prim.Native.Nat.{ℕ, zero, suc, _+_, _-_, _*_, _/_, _%_, _^_, _≤_, _<_}
+use Prim.Native.Nat.{ℕ, zero, suc, _+_, _-_, _*_, _/_, _%_, _^_, _<_}
 use native.Mathlib.Omega.{arith}
-use native.Mathlib.Nat.{zero-add, add-zero}
+use native.Mathlib.Nat.{zero-add}
 use mathlib.Core.Path.{_≡_, refl, sym, ap, ap₂, _∙_}
-use mathlib.Core.List.{List, [], _∷_, _++_, map, append-nil}
-use mathlib.Core.Bool.{Bool, true, false, cond, _&&_, _||_}
+use mathlib.Core.List.{List, [], map, append-nil}
+use mathlib.Core.Bool.{Bool, true}
 use lib.Count.{ones, ones-step}
-use lib.Dec.{ltb, leb, eqb}
-use lib.ListN.{length, getD, take, drop, length-map}
+use lib.Dec.{ltb, eqb}
+use lib.ListN.{length, getD, length-map}
 use lib.Seq.{take-all}
 use borrow.Author.Tests.{ltb-true, lt-ltb, eq-eqb, eqb-true}
 use Rattle.octets.specs.Lists.{count, all}
@@ -33,16 +33,27 @@ word-ones test (suc k) =
     ∙ ap (λ (n : ℕ). digit (test 0) + n)
     (word-ones (λ j. test (suc j)) k ∙ count-same (λ j. test (suc j)) test 0 1 k (λ j h. ap test (omega arith)))
 
--- and of all words the addresses that pass
+-- and of the word of 64 addresses those that pass, and of all words all that pass
+pub ones-at : (test : ℕ → Bool) (i : ℕ) → ones (wordAt test i) ≡ count test (span (64 * i) 64)
+ones-at test i =
+    word-ones (λ j. test (64 * i + j)) 64
+    ∙ count-same (λ j. test (64 * i + j)) test 0 (64 * i) 64 (λ j h. ap (λ (y : ℕ). test (64 * i + y)) (zero-add j))
+
+-- 64 addresses more
+pub count-more : (test : ℕ → Bool) (i : ℕ) → count test (span 0 (64 * (i + 1))) ≡ count test (span 0 (64 * i)) + count test (span (64 * i) 64)
+count-more test i =
+    let more : 64 * (i + 1) ≡ 64 * i + 64 = omega arith in
+    ap (λ (m : ℕ). count test (span 0 m)) more
+    ∙ count-split test 0 (64 * i) 64
+    ∙ ap (λ (x : ℕ). count test (span 0 (64 * i)) + count test (span x 64)) (zero-add (64 * i))
+
 pub ones-span : (test : ℕ → Bool) (i n : ℕ) → onesOf (map (wordAt test) (span i n)) ≡ count test (span (64 * i) (64 * n))
 unfolding onesOf span
 ones-span test i zero = sym (count-empty test (64 * i))
 ones-span test i (suc n) =
     let next : 64 * suc i ≡ 64 * i + 64 = omega arith in
     let more : 64 + 64 * n ≡ 64 * suc n = omega arith in
-    ap₂ (λ (x y : ℕ). x + y)
-    (word-ones (λ j. test (64 * i + j)) 64 ∙ count-same (λ j. test (64 * i + j)) test 0 (64 * i) 64 (λ j h. ap (λ (y : ℕ). test (64 * i + y)) (zero-add j)))
-    (ones-span test (suc i) n ∙ ap (λ (x : ℕ). count test (span x (64 * n))) next)
+    ap₂ (λ (x y : ℕ). x + y) (ones-at test i) (ones-span test (suc i) n ∙ ap (λ (x : ℕ). count test (span x (64 * n))) next)
     ∙ sym (count-split test (64 * i) 64 (64 * n))
     ∙ ap (λ (m : ℕ). count test (span (64 * i) m)) more
 
