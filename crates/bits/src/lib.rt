@@ -3,7 +3,7 @@ mod each;
 mod span;
 mod whole;
 
-pub use each::span_bits;
+pub use each::first_bits;
 pub use span::count_span;
 pub use span::runs_with;
 pub use span::set_span;

@@ -1,17 +1,19 @@
 -- Laws of values that are zero where their addresses are not held.
-use Prim.Native.Nat.{ℕ, zero, suc, _+_, _-_, _<_, _≤_}
+use Prim.Native.Nat.{ℕ, zero, suc, _+_, _*_, _-_, _/_, _%_, _<_, _≤_}
 use native.Mathlib.Omega.{arith}
 use native.Mathlib.Nat.{add-zero, zero-add}
 use mathlib.Core.Path.{_≡_, refl, ap, ap₂, sym, _∙_}
 use mathlib.Core.List.{List, [], _∷_, _++_}
-use mathlib.Core.Bool.{Bool, true, false, cond, _&&_, _||_, and-true}
+use mathlib.Core.Bool.{Bool, true, false, cond, _&&_, _||_, and-true, and-false}
 use lib.Bits.{bitOr}
 use lib.Dec.{eqb}
-use lib.ListN.{length, getD}
+use lib.ListN.{getD, take, drop}
+use lib.Seq.{getD-take, getD-drop}
 use Rattle.octets.specs.Lists.{all}
 use Rattle.octets.proofs.Zero.{or-zero}
 use Rattle.state.specs.Records.{span}
 use Rattle.state.proofs.Places.{span-append}
+use Rattle.bits.specs.Bits.{bit, isSet}
 use Rattle.bytemap.specs.Values.{clean}
 
 -- it depends on the tests and the values of the span alone, wherever they stand
@@ -68,3 +70,30 @@ clean-next held values or i before =
     go : (b : Bool) → eqb (cond b 0 (getD values i 0)) 0 ≡ ((b || eqb (getD values i 0) 0) && true)
     go true = refl
     go false = sym (and-true (eqb (getD values i 0) 0))
+
+-- the values of one word of the map, lent as a part of all
+pub clean-lent : (words values : List ℕ) (i : ℕ)
+    → clean (bit (getD words i 0)) (take (64 * i + 64 - 64 * i) (drop (64 * i) values)) 0 64 ≡ clean (isSet words) values (64 * i) 64
+clean-lent words values i =
+    clean-moved (bit (getD words i 0)) (isSet words) (take (64 * i + 64 - 64 * i) (drop (64 * i) values)) values 0 (64 * i) 64
+    (λ j h.
+    let word : (64 * i + j) / 64 ≡ i = omega arith in
+    let place : (64 * i + j) % 64 ≡ j = omega arith in (
+      ap (bit (getD words i 0)) (zero-add j) ∙ sym (ap₂ (λ (w k : ℕ). bit (getD words w 0) k) word place),
+      ap (λ (k : ℕ). getD (take (64 * i + 64 - 64 * i) (drop (64 * i) values)) k 0) (zero-add j)
+      ∙ getD-take (64 * i + 64 - 64 * i) (drop (64 * i) values) j 0 (omega arith) ∙ getD-drop (64 * i) values j 0,
+    ))
+
+-- word after word: one more that is clean, and one that is not
+pub clean-on : (words values : List ℕ) (i : ℕ) → clean (isSet words) values 0 (64 * i) ≡ true → clean (isSet words) values (64 * i) 64 ≡ true
+    → clean (isSet words) values 0 (64 * (i + 1)) ≡ true
+clean-on words values i before here =
+    ap (clean (isSet words) values 0) (omega arith) ∙ clean-parts (isSet words) values 0 (64 * i) 64
+    ∙ rw (before, zero-add (64 * i)) here
+
+pub clean-off : (words values : List ℕ) (i n : ℕ) → 64 * i + 64 ≤ n → clean (isSet words) values (64 * i) 64 ≡ false
+    → clean (isSet words) values 0 n ≡ false
+clean-off words values i n inside here =
+    let rest = n - (64 * i + 64) in
+    ap (clean (isSet words) values 0) (omega arith) ∙ clean-parts (isSet words) values 0 (64 * i) (64 + rest)
+    ∙ rw (zero-add (64 * i), clean-parts (isSet words) values (64 * i) 64 rest, here) (and-false (clean (isSet words) values 0 (64 * i)))

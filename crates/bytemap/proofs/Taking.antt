@@ -1,23 +1,49 @@
 -- What a loop over a span makes of the values: those that it has passed are taken, and the others are as they were.
 use Prim.Native.Nat.{ℕ, zero, suc, _+_, _-_, _/_, _%_, _^_, _≤_, _<_}
 use native.Mathlib.Omega.{arith}
-use native.Mathlib.Nat.{add-zero}
+use native.Mathlib.Nat.{zero-div}
 use mathlib.Core.Path.{_≡_, refl, ap, ap₂, sym, _∙_}
 use mathlib.Core.List.{List, [], _∷_, _++_, map, map-append}
-use mathlib.Core.Bool.{Bool, cond}
-use lib.Dec.{eqb}
+use mathlib.Core.Bool.{Bool, true, false, cond, _&&_, and-true}
+use lib.Bits.{bitAnd}
+use lib.Dec.{ltb, eqb}
 use lib.Pow.{shr-shr}
-use lib.ListN.{length, getD, set, length-map}
-use Rattle.octets.specs.Lists.{overwrite}
-use Rattle.octets.proofs.Overwrite.{overwrite-none, overwrite-then, overwrite-more, overwrite-above, length-overwrite}
+use lib.ListN.{length, getD, set, take, drop, length-map, length-take}
+use lib.Seq.{take-all}
+use borrow.Author.Tests.{lt-ltb}
+use Rattle.octets.specs.Lists.{overwrite, part}
+use Rattle.octets.proofs.Overwrite.{overwrite-same, overwrite-none, overwrite-then, overwrite-more, overwrite-above, length-overwrite}
 use Rattle.state.specs.Records.{span}
-use Rattle.state.proofs.Places.{length-span, span-append, map-span}
-use Rattle.bits.specs.Bits.{bit, isSet}
+use Rattle.state.proofs.Places.{length-span, span-append, map-read}
+use Rattle.bits.specs.Bits.{bit, isSet, wordOf}
+use Rattle.bits.proofs.Word.{word-bit}
+use Rattle.bits.proofs.Operations.{bit-and, full-word}
 use Rattle.bytemap.specs.Values.{bitsFrom, taken}
 
 -- a shift to the right moves the bits down
 pub bit-shifted : (w s j : ℕ) → bit (w / 2 ^ s) j ≡ bit w (s + j)
 bit-shifted w s j = ap (λ (n : ℕ). eqb (n % 2) 1) (shr-shr w s j)
+
+-- a word of which no bit is set, and one of which all are; and one of which none of the n lowest is, and one of which all of these are
+pub no-bit : (j : ℕ) → bit 0 j ≡ false
+no-bit j = ap (λ (w : ℕ). eqb (w % 2) 1) (zero-div (2 ^ j))
+
+pub every-bit : (j : ℕ) → j < 64 → bit (2 ^ 64 - 1) j ≡ true
+every-bit j inside = ap (λ (w : ℕ). bit w j) (full-word 64 64 (omega arith)) ∙ word-bit (λ i. ltb i 64) 64 j inside ∙ lt-ltb j 64 inside
+
+masked : (w n j : ℕ) → j < n → j < 64 → bit (bitAnd w (wordOf (λ i. ltb i n) 64)) j ≡ bit w j
+masked w n j below inside =
+    bit-and w (wordOf (λ i. ltb i n) 64) j
+    ∙ ap (λ (b : Bool). bit w j && b) (word-bit (λ i. ltb i n) 64 j inside ∙ lt-ltb j n below) ∙ and-true (bit w j)
+
+pub none-set : (w f n j : ℕ) → f ≡ wordOf (λ i. ltb i n) 64 → bitAnd w f ≡ 0 → j < n → j < 64 → bit w j ≡ false
+none-set w f n j is none below inside =
+    sym (masked w n j below inside) ∙ ap (λ (g : ℕ). bit (bitAnd w g) j) (sym is) ∙ ap (λ (v : ℕ). bit v j) none ∙ no-bit j
+
+pub all-set : (w f n j : ℕ) → f ≡ wordOf (λ i. ltb i n) 64 → bitAnd w f ≡ f → j < n → j < 64 → bit w j ≡ true
+all-set w f n j is every below inside =
+    sym (masked w n j below inside) ∙ ap (λ (g : ℕ). bit (bitAnd w g) j) (sym is) ∙ ap (λ (v : ℕ). bit v j) (every ∙ is)
+    ∙ word-bit (λ i. ltb i n) 64 j inside ∙ lt-ltb j n below
 
 -- what is taken depends on the tests and the values of the span alone
 pub taken-same :
@@ -65,6 +91,23 @@ module _ (held : ℕ → Bool) (values window : List ℕ) (a : ℕ) where
       ∙ ap (λ (i : ℕ). overwrite (passed n) (a + i) (taken held values window (a + n) k)) (sym (length-taken n))
       ∙ overwrite-then values (taken held values window a n) (taken held values window (a + n) k) a (omega arith)
       ∙ ap (overwrite values a) (sym (taken-more n k))
+
+-- where none of the span is held it is the window's, and where all is it stays
+pub taken-window : (held : ℕ → Bool) (values window : List ℕ) (a n : ℕ) → a + n ≤ length window → ((i : ℕ) → i < n → held (a + i) ≡ false)
+    → taken held values window a n ≡ part window a n
+taken-window held values window a n fits none =
+    map-read (λ x. cond (held x) (getD values x 0) (getD window x 0)) window a a n fits (λ i h. rw (none i h))
+
+pub taken-held : (held : ℕ → Bool) (values window : List ℕ) (a n : ℕ) → a + n ≤ length values → ((i : ℕ) → i < n → held (a + i) ≡ true)
+    → overwrite values a (taken held values window a n) ≡ values
+taken-held held values window a n fits every =
+    ap (overwrite values a) (map-read (λ x. cond (held x) (getD values x 0) (getD window x 0)) values a a n fits (λ i h. rw (every i h)))
+    ∙ overwrite-same values a n fits
+
+-- the window's part as a function that copies gets it
+pub lent-part : (l : List ℕ) (room a n : ℕ) → n ≤ room → take room (take (a + n - a) (drop a l)) ≡ part l a n
+lent-part l room a n fits =
+    ap (λ (k : ℕ). take room (take k (drop a l))) (omega arith) ∙ take-all room (take n (drop a l)) (simp length-take (omega arith))
 
 -- one value taken
 pub taken-one : (held : ℕ → Bool) (values window : List ℕ) (x : ℕ) → x < length values

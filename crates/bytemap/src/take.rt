@@ -1,7 +1,7 @@
 // The bytes of a span come to be held: those that were not are read from the window.
 ghost use mathlib.Core.Path.{_≡_};
 ghost use mathlib.Core.Bool.{cond};
-ghost use Prim.Native.Nat.{_+_, _-_, _^_, _<_, _≤_};
+ghost use Prim.Native.Nat.{_+_, _-_, _<_, _≤_};
 ghost use lib.ListN.{length, getD, set};
 ghost use Rattle.octets.specs.Lists.{overwrite};
 ghost use Rattle.bits.specs.Bits.{bit, isSet, wordLimit, mapLimit};
@@ -32,25 +32,14 @@ fn take_some(bits: u64, values: &mut [u8], window: &[u8], low: usize, n: usize)
     }
 }
 
-// The n lowest bits.
-fn low_bits(n: usize) -> u64
-    requires { ⌜ n ≤ 64 ⌝ }
-    ensures { λ r. ⌜ r ≡ 2 ^ n - 1 ⌝ }
-{
-    if n == 64 {
-        return u64::MAX;
-    }
-    (1u64 << n) - 1
-}
-
 // The bytes of a span that lies in one word of the map. Where none of them is held they are copied at once, and where all are there is
 // nothing to do.
-fn take_part(bits: u64, values: &mut [u8], window: &[u8], low: usize, n: usize)
+fn take_part(word: u64, values: &mut [u8], window: &[u8], low: usize, n: usize)
     requires { ⌜ (n ≤ 64) × (low + n ≤ length (now values)) × (low + n ≤ length (now window)) ⌝ }
-    ensures { λ _. ⌜ now (values .exit) ≡ overwrite (now (values .entry)) low (taken (bitsFrom low bits) (now (values .entry)) (now (window .entry)) low n) ⌝ }
+    ensures { λ _. ⌜ now (values .exit) ≡ overwrite (now (values .entry)) low (taken (bitsFrom low word) (now (values .entry)) (now (window .entry)) low n) ⌝ }
 {
-    let span = low_bits(n);
-    let held = bits & span;
+    let span = bits::first_bits(n);
+    let held = word & span;
     if held == 0 {
         octets::copy_at(values, low, &window[low..low + n]);
         return;
@@ -58,7 +47,7 @@ fn take_part(bits: u64, values: &mut [u8], window: &[u8], low: usize, n: usize)
     if held == span {
         return;
     }
-    take_some(bits, values, window, low, n);
+    take_some(word, values, window, low, n);
 }
 
 // The bytes of the n addresses from `low` on, word by word of the map.
