@@ -107,7 +107,8 @@ taken-held held values window a n fits every =
 -- the window's part as a function that copies gets it
 pub lent-part : (l : List ℕ) (room a n : ℕ) → n ≤ room → take room (take (a + n - a) (drop a l)) ≡ part l a n
 lent-part l room a n fits =
-    ap (λ (k : ℕ). take room (take k (drop a l))) (omega arith) ∙ take-all room (take n (drop a l)) (simp length-take (omega arith))
+    let many : a + n - a ≡ n = omega arith in
+    ap (λ (k : ℕ). take room (take k (drop a l))) many ∙ take-all room (take n (drop a l)) (simp length-take (omega arith))
 
 -- one value taken
 pub taken-one : (held : ℕ → Bool) (values window : List ℕ) (x : ℕ) → x < length values
