@@ -22,8 +22,8 @@ map-refusals m (fetch a n dest window) =
     record {
       order = refl;
       given =
-        verdict-keeps (ofCall (fetch a n dest window)) (fetchChecks m (length window) (length dest) a n) (freshCount m a n ∷ replayedCount m a n ∷ [])
-        refl;
+          verdict-keeps (ofCall (fetch a n dest window)) (fetchChecks m (length window) (length dest) a n) (freshCount m a n ∷ replayedCount m a n ∷ [])
+          refl;
     }
 map-refusals m end = record { order = refl; given = verdict-keeps (ofCall end) (endChecks m) (length (runsOf m) ∷ heldCount m ∷ []) refl }
 

@@ -81,7 +81,7 @@ clean-lent words values i =
     let place : (64 * i + j) % 64 ≡ j = omega arith in (
       ap (bit (getD words i 0)) (zero-add j) ∙ sym (ap₂ (λ (w k : ℕ). bit (getD words w 0) k) word place),
       ap (λ (k : ℕ). getD (take (64 * i + 64 - 64 * i) (drop (64 * i) values)) k 0) (zero-add j)
-      ∙ getD-take (64 * i + 64 - 64 * i) (drop (64 * i) values) j 0 (omega arith) ∙ getD-drop (64 * i) values j 0,
+          ∙ getD-take (64 * i + 64 - 64 * i) (drop (64 * i) values) j 0 (omega arith) ∙ getD-drop (64 * i) values j 0,
     ))
 
 -- word after word: one more that is clean, and one that is not

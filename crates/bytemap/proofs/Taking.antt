@@ -12,7 +12,7 @@ use lib.ListN.{length, getD, set, take, drop, length-map, length-take}
 use lib.Seq.{take-all}
 use borrow.Author.Tests.{lt-ltb}
 use Rattle.octets.specs.Lists.{overwrite, part}
-use Rattle.octets.proofs.Overwrite.{overwrite-same, overwrite-none, overwrite-then, overwrite-more, overwrite-above, length-overwrite}
+use Rattle.octets.proofs.Overwrite.{overwrite-same, overwrite-part, overwrite-none, overwrite-then, overwrite-more, overwrite-above, length-overwrite}
 use Rattle.state.specs.Records.{span}
 use Rattle.state.proofs.Places.{length-span, span-append, map-read}
 use Rattle.bits.specs.Bits.{bit, isSet, wordOf}
@@ -109,6 +109,15 @@ pub lent-part : (l : List ℕ) (room a n : ℕ) → n ≤ room → take room (ta
 lent-part l room a n fits =
     let many : a + n - a ≡ n = omega arith in
     ap (λ (k : ℕ). take room (take k (drop a l))) many ∙ take-all room (take n (drop a l)) (simp length-take (omega arith))
+
+-- what was taken is what a function gets that is lent the values of the span
+pub lent-taken : (held : ℕ → Bool) (values window now : List ℕ) (room a n : ℕ) → n ≤ room → a + n ≤ length values
+    → now ≡ overwrite values a (taken held values window a n) → take room (take (a + n - a) (drop a now)) ≡ taken held values window a n
+lent-taken held values window now room a n fits reach is =
+    let bytes = taken held values window a n in
+    let many = length-taken held values window a n in
+    lent-part now room a n fits ∙ ap (λ (l : List ℕ). part l a n) is ∙ ap (part (overwrite values a bytes) a) (sym many)
+    ∙ overwrite-part values bytes a (omega (arith, many))
 
 -- one value taken
 pub taken-one : (held : ℕ → Bool) (values window : List ℕ) (x : ℕ) → x < length values

@@ -5,6 +5,7 @@ ghost use Rattle.state.specs.Answers.{fetchReply};
 ghost use Rattle.bits.specs.Bits.{wordLimit, mapLimit};
 ghost use Rattle.bytemap.specs.Map.{mapOf};
 ghost use Rattle.bytemap.specs.Fetch.{fetchSays, Fetches};
+ghost use Rattle.bytemap.specs.Values.{Fits, Delivers};
 use crate::ByteMap;
 use crate::holds::holds;
 use crate::take::take;
@@ -53,6 +54,23 @@ fn judge(
     }
 }
 
+// The bytes of the span are taken into the values, go from there to the destination, and the span is set.
+fn deliver(
+    words: &mut [u64],
+    values: &mut [u8],
+    window: &[u8],
+    destination: &mut [u8],
+    address: usize,
+    size: usize,
+)
+    requires { ⌜ Fits (length (now words)) (length (now values)) (length (now window)) (length (now destination)) address size ⌝ }
+    ensures { λ _. ⌜ Delivers (now (words .entry)) (now (values .entry)) (now (window .entry)) (now (destination .entry)) address size (now (words .exit)) (now (values .exit)) (now (destination .exit)) ⌝ }
+{
+    take(words, values, window, address, size);
+    octets::copy_front(destination, &values[address..address + size]);
+    bits::set_span(words, address, address + size);
+}
+
 // The call, once the arrays are lent as slices.
 fn fetch_words(
     flag: u64,
@@ -78,9 +96,7 @@ fn fetch_words(
     match answer {
         FetchAnswer::Refused(why) => FetchAnswer::Refused(why),
         FetchAnswer::Done { fresh, replayed } => {
-            take(words, values, window, address, size);
-            octets::copy_front(destination, &values[address..address + size]);
-            bits::set_span(words, address, address + size);
+            deliver(words, values, window, destination, address, size);
             FetchAnswer::Done { fresh, replayed }
         }
     }

@@ -37,7 +37,7 @@ loop-again c =
       omega arith,
       ap (λ (w : ℕ). w / 2) (l .loop .inv .1) ∙ shr-shr (a .bits) (l .loop .i) 1,
       turn .take-byte .ensures ∙ ap₂ put (l .loop .inv .2) (l .loop .inv .1)
-      ∙ passed-one (a .bits) (now (a .values)) (now (a .window)) (a .low) (l .loop .i) (omega arith),
+          ∙ passed-one (a .bits) (now (a .values)) (now (a .window)) (a .low) (l .loop .i) (omega arith),
       rw (turn .take-byte .ensures) (simp length-set (omega arith)),
     )
 
