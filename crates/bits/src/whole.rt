@@ -1,28 +1,14 @@
-// All words of a map: their ones, their runs, whether none is set, and the clearing of all.
+// All words of a map: whether no bit is set, the clearing of all, and the runs of set bits.
 ghost use mathlib.Core.Path.{_≡_};
 ghost use lib.Dec.{eqb};
 ghost use lib.ListN.{length, replicate};
 ghost use Rattle.octets.specs.Lists.{all};
 ghost use Rattle.state.specs.Runs.{runsFrom};
-ghost use Rattle.bits.specs.Bits.{wordLimit, mapLimit, isSet, onesOf};
+ghost use Rattle.bits.specs.Bits.{wordLimit, mapLimit, isSet};
 use super::each::starts;
-use super::each::tally;
 
-// The ones of all words.
-pub fn ones(words: &[u64]) -> usize
-    requires { ⌜ length (now words) ≡ wordLimit ⌝ }
-    ensures { λ r. ⌜ r ≡ onesOf (now (words .entry)) ⌝ }
-{
-    let mut n: usize = 0;
-    let mut i = 0;
-    while i < 64 {
-        n = n + tally(words[i]);
-        i = i + 1;
-    }
-    n
-}
-
-// Whether no bit is set. The words are joined by a bitwise or, with no test before the end, so that several are looked at in one instruction.
+// Whether no bit is set. The words are joined by a bitwise or, with no test before the end, so that several are looked at in one
+// instruction.
 pub fn all_zero(words: &[u64]) -> bool
     ensures { λ r. ⌜ r ≡ all (λ w. eqb w 0) (now (words .entry)) ⌝ }
 {

@@ -28,10 +28,11 @@ loop-again : tie.Need-loop-again Inv-loop μ-loop
 loop-again c =
     let l = c .before .before .before .before in
     let a = l .before .before .args in
-    let words = now (a .words) in (
+    let words = now (a .words) in
+    let mask = c .before .before .span-bits in (
       omega arith,
       walk-on (either words (a .low) (a .high)) (l .loop .n) (l .loop .carry) (l .loop .i) (l .loop .inv .1) _
-          (either-word words (known (l .before)) (a .low) (a .high) (omega arith) (l .loop .i) (c .before .span-bits .result) (c .before .span-bits .ensures))
+          (either-word words (known (l .before)) (a .low) (a .high) (omega arith) (l .loop .i) (mask .result) (mask .ensures))
           (c .starts .result) (c .starts .ensures .0),
     )
 
@@ -48,9 +49,9 @@ runs-with-spec =
     Inv-loop
     μ-loop
     (λ c. (omega arith, walk-from (either (now (c .before .args .words)) (c .before .args .low) (c .before .args .high))))
-    (λ c. omega arith)
-    (λ c. omega arith)
     (λ c κs. search needs)
+    (λ c. omega arith)
+    (λ c. omega arith)
     starts-requires
     add-n
     (λ c. omega arith)
