@@ -12,7 +12,7 @@ use borrow.Author.Tests.{ltb-true, ltb-false, le-ltb, lt-ltb, le-leb, lt-leb}
 use Rattle.state.specs.Records.{inSpan}
 use Rattle.state.proofs.Cases.{leb-same}
 use Rattle.bits.specs.Bits.{bit, wordOf, lower}
-use Rattle.bits.proofs.Word.{digit, digit-small, digit-odd, bit-lowest, bit-higher, word-below, word-bit, word-same, same-bits}
+use Rattle.bits.proofs.Word.{digit, digit-small, digit-odd, bit-lowest, bit-higher, bit-of-zero, word-below, word-bit, word-same, same-bits}
 
 -- a digit of 0 or 1 as a bit
 data Digit : ℕ → Type 0 where
@@ -93,10 +93,6 @@ bit-top w k small =
     go zero h = refl
     go (suc zero) h = refl
     go (suc (suc d)) h = absurd (omega arith)
-
-bit-of-zero : (j : ℕ) → bit 0 j ≡ false
-bit-of-zero zero = refl
-bit-of-zero (suc j) = bit-higher 0 j ∙ bit-of-zero j
 
 -- A word shifted up by one, with a bit put in below: its highest bit is dropped.
 pub bit-shifted : (w k : ℕ) (first : Bool) (j : ℕ) → j < k → bit (bitOr (w * 2 % 2 ^ k) (digit first)) j ≡ lower first (bit w) j

@@ -45,6 +45,13 @@ front-headed x y (r ∷ rs) = go (eqb (r .start) (suc x))
     go true = refl
     go false = refl
 
+-- tests that agree on the addresses have the same runs
+pub runs-agree : (f g : ℕ → Bool) (x n : ℕ) → ((y : ℕ) → x ≤ y → y < x + n → f y ≡ g y) → runsFrom f x n ≡ runsFrom g x n
+unfolding runsFrom
+runs-agree f g x zero same = refl
+runs-agree f g x (suc n) same =
+    rw (same x (omega arith) (omega arith), runs-agree f g (suc x) n (λ y h k. same y (omega arith) (omega arith)))
+
 module _ (test : ℕ → Bool) where
   -- runs start where the addresses do or behind that
   headed-later : (y x n : ℕ) → y < x → headed y (runsFrom test x n) ≡ false

@@ -4,19 +4,19 @@ use Prim.Native.Nat.{ℕ, zero, suc, _+_, _-_, _*_, _/_, _%_, _^_, _<_}
 use native.Mathlib.Omega.{arith}
 use native.Mathlib.Nat.{zero-add}
 use mathlib.Core.Path.{_≡_, refl, sym, ap, ap₂, _∙_}
-use mathlib.Core.List.{List, [], map, append-nil}
-use mathlib.Core.Bool.{Bool, true}
+use mathlib.Core.List.{List, [], _∷_, map, append-nil}
+use mathlib.Core.Bool.{Bool, true, false}
 use lib.Count.{ones, ones-step}
 use lib.Dec.{ltb, eqb}
-use lib.ListN.{length, getD, length-map}
+use lib.ListN.{length, getD, replicate, length-map}
 use lib.Seq.{take-all}
 use borrow.Author.Tests.{ltb-true, lt-ltb, eq-eqb, eqb-true}
 use Rattle.octets.specs.Lists.{count, all}
-use Rattle.octets.proofs.Lists.{and-left, and-right, both, all-at}
+use Rattle.octets.proofs.Lists.{and-left, and-right, both, all-at, all-replicate, getD-same}
 use Rattle.state.specs.Records.{span}
 use Rattle.state.proofs.Places.{length-span, span-at, map-read}
 use Rattle.bits.specs.Bits.{wordLimit, mapLimit, bit, isSet, wordOf, wordsOf, onesOf, areWords}
-use Rattle.bits.proofs.Word.{digit, word-odd, word-half, word-below, word-bit, word-same, word-of-bits}
+use Rattle.bits.proofs.Word.{digit, bit-of-zero, word-odd, word-half, word-below, word-bit, word-same, word-of-bits}
 use Rattle.bits.proofs.Counts.{count-split, count-same, count-empty}
 
 -- the word of the 64 addresses from 64 times i on
@@ -122,3 +122,39 @@ words-of-bits words e = words-read words (words-told words e)
 -- the sum of ones is the number of addresses whose bit is set
 pub ones-counted : (words : List ℕ) → areWords words ≡ true → onesOf words ≡ count (isSet words) (span 0 mapLimit)
 ones-counted words e = sym (ap onesOf (words-of-bits words e)) ∙ ones-of-words (isSet words)
+
+-- tests that agree on every address have the same words
+words-same-from : (f g : ℕ → Bool) (i n : ℕ) → ((x : ℕ) → x < 64 * (i + n) → f x ≡ g x) → map (wordAt f) (span i n) ≡ map (wordAt g) (span i n)
+unfolding span
+words-same-from f g i zero same = refl
+words-same-from f g i (suc n) same =
+    rw (word-same (λ j. f (64 * i + j)) (λ j. g (64 * i + j)) 64 (λ j h. same (64 * i + j) (omega arith)))
+    (ap (λ (l : List ℕ). wordAt g i ∷ l) (words-same-from f g (suc i) n (λ x h. same x (omega arith))))
+
+pub words-same : (f g : ℕ → Bool) → ((x : ℕ) → x < mapLimit → f x ≡ g x) → wordsOf f ≡ wordsOf g
+unfolding wordsOf
+words-same f g same = words-same-from f g 0 wordLimit same
+
+-- Words that are all zero have no bit set and no ones, and are those of the test that no address passes.
+pub unset : (n x : ℕ) → isSet (replicate n 0) x ≡ false
+unset n x = ap (λ (w : ℕ). bit w (x % 64)) (getD-same n (x / 64) 0) ∙ bit-of-zero (x % 64)
+
+pub ones-unset : (n : ℕ) → onesOf (replicate n 0) ≡ 0
+unfolding onesOf ones
+ones-unset zero = refl
+ones-unset (suc n) = omega (arith, ones-unset n)
+
+pub words-unset : wordsOf (λ x. false) ≡ replicate wordLimit 0
+words-unset =
+    words-same (λ x. false) (isSet (replicate wordLimit 0)) (λ x h. sym (unset wordLimit x))
+    ∙ words-of-bits (replicate wordLimit 0) (both refl (all-replicate (λ w. ltb w (2 ^ 64)) wordLimit 0 refl))
+
+-- Words are all zero just if no bit is set.
+pub zero-unset : (words : List ℕ) → all (λ w. eqb w 0) words ≡ true → (x : ℕ) → isSet words x ≡ false
+zero-unset words e x =
+    ap (λ (w : ℕ). bit w (x % 64)) (eqb-true (getD words (x / 64) 0) 0 (all-at (λ w. eqb w 0) words (x / 64) 0 e refl)) ∙ bit-of-zero (x % 64)
+
+pub unset-zero : (words : List ℕ) → areWords words ≡ true → ((x : ℕ) → x < mapLimit → isSet words x ≡ false) → all (λ w. eqb w 0) words ≡ true
+unset-zero words e none =
+    let zeros : words ≡ replicate wordLimit 0 = sym (words-of-bits words e) ∙ words-same (isSet words) (λ x. false) none ∙ words-unset in
+    ap (all (λ w. eqb w 0)) zeros ∙ all-replicate (λ w. eqb w 0) wordLimit 0 refl
