@@ -15,13 +15,9 @@ use Rattle.octets.specs.Lists.{count, all}
 use Rattle.octets.proofs.Lists.{and-left, and-right, both, all-at, all-replicate, getD-same}
 use Rattle.state.specs.Records.{span}
 use Rattle.state.proofs.Places.{length-span, span-at, map-read}
-use Rattle.bits.specs.Bits.{wordLimit, mapLimit, bit, isSet, wordOf, wordsOf, onesOf, areWords}
+use Rattle.bits.specs.Bits.{wordLimit, mapLimit, bit, isSet, wordOf, wordAt, wordsOf, onesOf, areWords}
 use Rattle.bits.proofs.Word.{digit, bit-of-zero, word-odd, word-half, word-below, word-bit, word-same, word-of-bits}
 use Rattle.bits.proofs.Counts.{count-split, count-same, count-empty}
-
--- the word of the 64 addresses from 64 times i on
-abbrev pub wordAt : (ℕ → Bool) → ℕ → ℕ
-wordAt test i = wordOf (λ j. test (64 * i + j)) 64
 
 -- the ones of a word are the places that pass
 pub word-ones : (test : ℕ → Bool) (k : ℕ) → ones (wordOf test k) ≡ count test (span 0 k)

@@ -9,8 +9,8 @@ use lib.ListN.{length, drop, drop-of-length-le}
 use denote.Ref.{now}
 use Rattle.octets.specs.Lists.{all}
 use Rattle.bits.proofs.Zero.{one-more}
-use Rattle.bits.proofs.whole.all_zero.Statement.{statement}
-use Rattle.bits.proofs.whole.all_zero.Tie as tie
+use Rattle.bits.proofs.fill.all_zero.Statement.{statement}
+use Rattle.bits.proofs.fill.all_zero.Tie as tie
 
 abbrev Inv-loop : tie.InvT-loop
 Inv-loop words or₀ i₀ or i = (eqb or 0 && all (λ w. eqb w 0) (drop i words)) ≡ all (λ w. eqb w 0) words
