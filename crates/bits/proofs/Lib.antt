@@ -4,4 +4,3 @@ pub mod Counts
 pub mod Words
 pub mod Starts
 pub mod Spans
-pub mod Zero

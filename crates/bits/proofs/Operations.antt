@@ -12,7 +12,7 @@ use borrow.Author.Tests.{ltb-true, ltb-false, le-ltb, lt-ltb, le-leb, lt-leb}
 use Rattle.state.specs.Records.{inSpan}
 use Rattle.state.proofs.Cases.{leb-same}
 use Rattle.bits.specs.Bits.{bit, wordOf, lower}
-use Rattle.bits.proofs.Word.{digit, digit-small, digit-odd, bit-lowest, bit-higher, word-below, word-bit, word-same, same-bits}
+use Rattle.bits.proofs.Word.{digit, digit-small, digit-odd, bit-lowest, bit-higher, bit-of-zero, word-below, word-bit, word-same, same-bits}
 
 -- a digit of 0 or 1 as a bit
 data Digit : ℕ → Type 0 where
@@ -94,10 +94,6 @@ bit-top w k small =
     go (suc zero) h = refl
     go (suc (suc d)) h = absurd (omega arith)
 
-bit-of-zero : (j : ℕ) → bit 0 j ≡ false
-bit-of-zero zero = refl
-bit-of-zero (suc j) = bit-higher 0 j ∙ bit-of-zero j
-
 -- A word shifted up by one, with a bit put in below: its highest bit is dropped.
 pub bit-shifted : (w k : ℕ) (first : Bool) (j : ℕ) → j < k → bit (bitOr (w * 2 % 2 ^ k) (digit first)) j ≡ lower first (bit w) j
 bit-shifted w k first zero h =
@@ -157,19 +153,6 @@ between-first low high h j = go (ltb j low) refl (ltb j high) refl
     go true e true f = rw (lt-leb low j (ltb-true j low e))
     go true e false f = absurd (omega (arith, ltb-true j low e, ltb-false j high f))
     go false e q f = rw (le-leb low j (ltb-false j low e)) (omega arith)
-
--- the word of the places from low up to high
-pub word-mask : (low high k : ℕ) → low ≤ high → high ≤ k → wordOf (λ j. leb low j && ltb j high) k ≡ 2 ^ high - 2 ^ low
-word-mask low high k h fits =
-    let first : min low k ≡ low = omega arith in
-    let last : min high k ≡ high = omega arith in
-    let lows : wordOf (λ j. ltb j low) k ≡ 2 ^ low - 1 = word-first low k ∙ ap (λ (n : ℕ). 2 ^ n - 1) first in
-    let highs : wordOf (λ j. ltb j high) k ≡ 2 ^ high - 1 = word-first high k ∙ ap (λ (n : ℕ). 2 ^ n - 1) last in
-    let sum = word-add (λ j. leb low j && ltb j high) (λ j. ltb j low) (λ j. ltb j high) k (between-first low high h) in
-    omega (arith, sum, lows, highs, pow-pos low, pow-pos high)
-
-pub bit-mask : (low high k j : ℕ) → low ≤ high → high ≤ k → j < k → bit (2 ^ high - 2 ^ low) j ≡ (leb low j && ltb j high)
-bit-mask low high k j h fits i = ap (λ (w : ℕ). bit w j) (sym (word-mask low high k h fits)) ∙ word-bit (λ j. leb low j && ltb j high) k j i
 
 -- the code's word of the places below n
 pub first-shifted : (n k : ℕ) → n < k → 1 * 2 ^ n % 2 ^ k ≡ 2 ^ n

@@ -12,11 +12,11 @@ use lib.Seq.{ext-getD, getD-set-same, getD-set-other}
 use borrow.Author.Tests.{ltb-true, ltb-false, eqb-true, eqb-false, lt-leb, le-ltb}
 use Rattle.octets.specs.Lists.{count}
 use Rattle.state.specs.Records.{span, inSpan}
-use Rattle.bits.specs.Bits.{wordLimit, isSet, wordsOf}
+use Rattle.bits.specs.Bits.{wordLimit, isSet, wordAt, wordsOf}
 use Rattle.bits.proofs.Word.{word-same}
 use Rattle.bits.proofs.Operations.{word-and, word-or}
 use Rattle.bits.proofs.Counts.{count-none, count-within}
-use Rattle.bits.proofs.Words.{wordAt, Words, word-read, words-at, length-words, ones-at, count-more}
+use Rattle.bits.proofs.Words.{Words, word-read, words-at, length-words, ones-at, count-more}
 
 module _ (words : List ℕ) (low high : ℕ) where
   -- is the address set and in the span? Is it set or in the span?
@@ -69,10 +69,17 @@ module _ (words : List ℕ) (w : Words words) (low high : ℕ) (up : low ≤ hig
       word-same (λ j. one (64 * i + j)) (λ j. isSet words (64 * i + j)) 64 (λ j h. rw (none j h) (or-false (isSet words (64 * i + j))))
       ∙ word-read words w i
 
+  pub kept-below : (i : ℕ) → i < low / 64 → getD words i 0 ≡ wordAt one i
+  kept-below i h = sym (kept i (λ j k. below (64 * i + j) (omega arith)))
+
+  pub kept-behind : (i : ℕ) → high ≤ 64 * i → getD words i 0 ≡ wordAt one i
+  kept-behind i h = sym (kept i (λ j k. behind (64 * i + j) (omega arith)))
+
+  -- Every word of the span is set.
   pub fill-from : Filled words low high words (low / 64)
   fill-from = record {
     size = w .size;
-    done = λ k h. sym (kept k (λ j s. below (64 * k + j) (omega arith)));
+    done = kept-below;
     rest = λ k h. refl;
   }
 
@@ -100,6 +107,4 @@ module _ (words : List ℕ) (w : Words words) (low high : ℕ) (up : low ≤ hig
     where
       go : (j : ℕ) → j < wordLimit → (b : Bool) → ltb j i ≡ b → getD now j 0 ≡ wordAt one j
       go j s true q = f .done j (ltb-true j i q)
-      go j s false q =
-          let past = ltb-false j i q in
-          f .rest j past ∙ sym (kept j (λ m t. behind (64 * j + m) (omega arith)))
+      go j s false q = f .rest j (ltb-false j i q) ∙ kept-behind j (omega (arith, ltb-false j i q))

@@ -15,11 +15,13 @@ use Rattle.octets.specs.Lists.{count}
 use Rattle.state.specs.declared.Record.{Record}
 use Rattle.state.specs.Records.{span}
 use Rattle.state.specs.Runs.{inFront, runsFrom}
-use Rattle.bits.specs.Bits.{wordLimit, mapLimit, bit, wordOf, lower, startsAt}
+use Rattle.bits.specs.declared.walk.Walk.{Walk}
+use Rattle.bits.specs.Walk.{Walked, Walking}
+use Rattle.bits.specs.Bits.{wordLimit, mapLimit, bit, wordOf, wordAt, lower, startsAt}
 use Rattle.bits.proofs.Word.{digit, digit-small, digit-odd, word-below, word-bit, same-bits}
 use Rattle.bits.proofs.Operations.{bit-and, bit-not, bit-shifted, bit-top}
 use Rattle.bits.proofs.Counts.{count-empty, count-bound, count-same}
-use Rattle.bits.proofs.Words.{wordAt, word-ones, count-more}
+use Rattle.bits.proofs.Words.{word-ones, count-more}
 
 -- does the first of the records start at x?
 headed : ℕ → List Record → Bool
@@ -117,32 +119,28 @@ pub carry-starts : (w carry k : ℕ) → w < 2 ^ k → 0 < k → carry ≤ 1
 carry-starts w carry k small some few =
     ap (λ (c : ℕ). ones (bitAnd w (2 ^ k - 1 - bitOr (w * 2 % 2 ^ k) c))) (sym (carry-bit carry few)) ∙ word-starts w k (eqb carry 1) small some
 
--- How far a walk over the words has come: the starts below word i are counted, and the bit below it is carried.
-pub record Walked (test : ℕ → Bool) (n carry i : ℕ) : Type 0 where
-  pub counted : n ≡ count (startsAt false test) (span 0 (64 * i))
-  pub carried : carry ≡ digit (lower false test (64 * i))
-
-pub walk-from : (test : ℕ → Bool) → Walked test 0 0 0
+-- A walk over the words begins, and its numbers are small.
+pub walk-from : (test : ℕ → Bool) → Walked test (record { n = 0; carry = 0 }) 0
 walk-from test = record { counted = sym (count-empty (startsAt false test) 0); carried = refl }
 
-pub walk-few : {test : ℕ → Bool} {n carry i : ℕ} → Walked test n carry i → n ≤ 64 * i
-walk-few {test} {n} {carry} {i} before = omega (arith, before .counted, count-bound (startsAt false test) 0 (64 * i))
-
-pub walk-bit : {test : ℕ → Bool} {n carry i : ℕ} → Walked test n carry i → carry ≤ 1
-walk-bit {test} {n} {carry} {i} before = omega (arith, before .carried, digit-small (lower false test (64 * i)))
+pub walk-small : {test : ℕ → Bool} {w : Walk} {i : ℕ} → Walked test w i → Walking w i
+walk-small {test} {w} {i} before = record {
+  few = omega (arith, before .counted, count-bound (startsAt false test) 0 (64 * i));
+  bit = omega (arith, before .carried, digit-small (lower false test (64 * i)));
+}
 
 -- one word more
-module _ (test : ℕ → Bool) (n carry i : ℕ) (before : Walked test n carry i) (w : ℕ) (word : w ≡ wordAt test i) where
+module _ (test : ℕ → Bool) (b : Walk) (i : ℕ) (before : Walked test b i) (w : ℕ) (word : w ≡ wordAt test i) where
   reads : (j : ℕ) → j < 64 → bit w j ≡ test (64 * i + j)
   reads j h = ap (λ (v : ℕ). bit v j) word ∙ word-bit (λ j. test (64 * i + j)) 64 j h
 
-  below : (j : ℕ) → j < 64 → lower (eqb carry 1) (bit w) j ≡ lower false test (64 * i + j)
+  below : (j : ℕ) → j < 64 → lower (eqb (b .carry) 1) (bit w) j ≡ lower false test (64 * i + j)
   below zero h =
       ap (λ (c : ℕ). eqb c 1) (before .carried) ∙ digit-odd (lower false test (64 * i)) ∙ ap (lower false test) (sym (add-zero (64 * i)))
   below (suc j) h = reads j (omega arith) ∙ ap (lower false test) (sym (add-suc (64 * i) j))
 
-  here : (j : ℕ) → j < 64 → startsAt (eqb carry 1) (bit w) j ≡ startsAt false test (64 * i + j)
-  here j h = ap₂ (λ (a b : Bool). a && not b) (reads j h) (below j h)
+  here : (j : ℕ) → j < 64 → startsAt (eqb (b .carry) 1) (bit w) (0 + j) ≡ startsAt false test (64 * i + j)
+  here j h = ap (startsAt (eqb (b .carry) 1) (bit w)) (zero-add j) ∙ ap₂ (λ (p q : Bool). p && not q) (reads j h) (below j h)
 
   top : w / 2 ^ 63 ≡ digit (lower false test (64 * (i + 1)))
   top =
@@ -150,13 +148,16 @@ module _ (test : ℕ → Bool) (n carry i : ℕ) (before : Walked test n carry i
       let next : suc (64 * i + 63) ≡ 64 * (i + 1) = omega arith in
       bit-top w 63 small ∙ ap digit (reads 63 (omega arith) ∙ ap (lower false test) next)
 
-  pub walk-on : (r : ℕ) → r ≡ count (startsAt (eqb carry 1) (bit w)) (span 0 64) → Walked test (n + r) (w / 2 ^ 63) (i + 1)
+  pub walk-on : (r : ℕ) → r ≡ count (startsAt (eqb (b .carry) 1) (bit w)) (span 0 64)
+      → Walked test (record { n = b .n + r; carry = w / 2 ^ 63 }) (i + 1)
   walk-on r found = record {
-    counted = ap₂ (λ (x y : ℕ). x + y) (before .counted) (found ∙ count-same (startsAt (eqb carry 1) (bit w)) (startsAt false test) 0 (64 * i) 64
-        (λ j h. ap (startsAt (eqb carry 1) (bit w)) (zero-add j) ∙ here j h)) ∙ sym (count-more (startsAt false test) i);
+    counted =
+        ap₂ (λ (x y : ℕ). x + y) (before .counted)
+        (found ∙ count-same (startsAt (eqb (b .carry) 1) (bit w)) (startsAt false test) 0 (64 * i) 64 here)
+        ∙ sym (count-more (startsAt false test) i);
     carried = top;
   }
 
 -- all words
-pub walk-all : (test : ℕ → Bool) (n carry i : ℕ) → Walked test n carry i → i ≡ wordLimit → n ≡ length (runsFrom test 0 mapLimit)
-walk-all test n carry i end all = end .counted ∙ ap (λ (k : ℕ). count (startsAt false test) (span 0 (64 * k))) all ∙ sym (runs-starts test mapLimit)
+pub walk-all : (test : ℕ → Bool) (w : Walk) → Walked test w wordLimit → w .n ≡ length (runsFrom test 0 mapLimit)
+walk-all test w end = end .counted ∙ sym (runs-starts test mapLimit)

@@ -27,6 +27,10 @@ bit-lowest w = rw (div-one w)
 pub bit-higher : (w j : ℕ) → bit w (suc j) ≡ bit (w / 2) j
 bit-higher w j = rw (pow-suc 2 j, mul-comm (2 ^ j) 2, ← div-div-eq-div-mul w 2 (2 ^ j))
 
+pub bit-of-zero : (j : ℕ) → bit 0 j ≡ false
+bit-of-zero zero = refl
+bit-of-zero (suc j) = bit-higher 0 j ∙ bit-of-zero j
+
 -- the digit of the lowest bit
 pub lowest-digit : (w : ℕ) → digit (bit w 0) ≡ w % 2
 lowest-digit w = rw (bit-lowest w) (go (w % 2) (omega arith))

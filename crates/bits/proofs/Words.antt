@@ -10,18 +10,14 @@ use lib.Count.{ones, ones-step}
 use lib.Dec.{ltb, eqb}
 use lib.ListN.{length, getD, length-map}
 use lib.Seq.{take-all}
-use borrow.Author.Tests.{ltb-true, lt-ltb, eq-eqb, eqb-true}
+use borrow.Author.Tests.{ltb-true, eqb-true}
 use Rattle.octets.specs.Lists.{count, all}
-use Rattle.octets.proofs.Lists.{and-left, and-right, both, all-at}
+use Rattle.octets.proofs.Lists.{and-left, and-right, all-at}
 use Rattle.state.specs.Records.{span}
 use Rattle.state.proofs.Places.{length-span, span-at, map-read}
-use Rattle.bits.specs.Bits.{wordLimit, mapLimit, bit, isSet, wordOf, wordsOf, onesOf, areWords}
-use Rattle.bits.proofs.Word.{digit, word-odd, word-half, word-below, word-bit, word-same, word-of-bits}
+use Rattle.bits.specs.Bits.{wordLimit, mapLimit, bit, isSet, wordOf, wordAt, wordsOf, onesOf, areWords}
+use Rattle.bits.proofs.Word.{digit, word-odd, word-half, word-bit, word-same, word-of-bits}
 use Rattle.bits.proofs.Counts.{count-split, count-same, count-empty}
-
--- the word of the 64 addresses from 64 times i on
-abbrev pub wordAt : (ℕ → Bool) → ℕ → ℕ
-wordAt test i = wordOf (λ j. test (64 * i + j)) 64
 
 -- the ones of a word are the places that pass
 pub word-ones : (test : ℕ → Bool) (k : ℕ) → ones (wordOf test k) ≡ count test (span 0 k)
@@ -78,15 +74,6 @@ words-set test x h =
 pub length-words : (test : ℕ → Bool) → length (wordsOf test) ≡ wordLimit
 unfolding wordsOf
 length-words test = length-map (span 0 wordLimit) (wordAt test) ∙ length-span 0 wordLimit
-
-all-words : (test : ℕ → Bool) (i n : ℕ) → all (λ w. ltb w (2 ^ 64)) (map (wordAt test) (span i n)) ≡ true
-unfolding all span
-all-words test i zero = refl
-all-words test i (suc n) = both (lt-ltb (wordAt test i) (2 ^ 64) (word-below (λ j. test (64 * i + j)) 64)) (all-words test (suc i) n)
-
-pub are-words : (test : ℕ → Bool) → areWords (wordsOf test) ≡ true
-unfolding wordsOf
-are-words test = both (eq-eqb (length (wordsOf test)) wordLimit (length-words test)) (all-words test 0 wordLimit)
 
 -- Words as a map has them: 64, each of 64 bits.
 pub record Words (words : List ℕ) : Type 0 where

@@ -29,6 +29,10 @@ unfoldable pub wordOf : (ℕ → Bool) → (k : ℕ) → ℕ
 wordOf test zero = 0
 wordOf test (suc k) = cond (test 0) 1 0 + wordOf (λ j. test (suc j)) k * 2
 
+-- the word of the 64 addresses from 64 times i on
+abbrev pub wordAt : (ℕ → Bool) → (i : ℕ) → ℕ
+wordAt test i = wordOf (λ j. test (64 * i + j)) 64
+
 -- the words in which the bit of an address is set exactly if the address passes
 unfoldable pub wordsOf : (ℕ → Bool) → List ℕ
 wordsOf test = map (λ i. wordOf (λ j. test (64 * i + j)) 64) (span 0 wordLimit)

@@ -1,13 +1,14 @@
 // Words of bits: one bit for each address of a byte map, 64 in a word. No function goes bit by bit.
+mod count;
 mod each;
-mod span;
-mod whole;
+mod fill;
+mod walk;
 
+pub use count::count_span;
+pub use count::ones;
 pub use each::first_bits;
-pub use span::count_span;
-pub use span::runs_with;
-pub use span::set_span;
-pub use whole::all_zero;
-pub use whole::clear;
-pub use whole::ones;
-pub use whole::runs;
+pub use fill::all_zero;
+pub use fill::clear;
+pub use fill::set_span;
+pub use walk::runs;
+pub use walk::runs_with;

@@ -1,19 +1,17 @@
 -- The claims about the byte map's calls.
-use Prim.Native.Nat.{ℕ}
-use mathlib.Core.Path.{_≡_, refl}
-use mathlib.Core.List.{List, [], _∷_}
-use mathlib.Core.Bool.{true, false}
+use mathlib.Core.Path.{refl}
+use mathlib.Core.List.{[], _∷_}
 use lib.ListN.{length}
 use Rattle.octets.specs.Lists.{all}
-use Rattle.state.specs.Verdict.{accepted, replied, contains}
+use Rattle.state.specs.Verdict.{contains}
 use Rattle.state.proofs.Verdict.{verdict-keeps}
 use Rattle.bits.proofs.Words as bits
-use Rattle.bytemap.specs.Map.{Map, runsOf, heldCount}
+use Rattle.bytemap.specs.Map.{runsOf, heldCount}
 use Rattle.bytemap.specs.Begin.{beginChecks, beginSays, beginMap}
 use Rattle.bytemap.specs.Fetch.{fetchChecks, fetchSays, fetchMap, fetchDest, freshCount, replayedCount}
 use Rattle.bytemap.specs.End.{endChecks, endSays, endMap}
-use Rattle.bytemap.specs.Runs.{Call, begin, fetch, end, says}
-use Rattle.bytemap.specs.Claims.{ofCall, Listed, MapRefusals, Unchanged, MapUnchanged, OnesCounted}
+use Rattle.bytemap.specs.Runs.{begin, fetch, end}
+use Rattle.bytemap.specs.Claims.{ofCall, MapRefusals, MapUnchanged, OnesCounted}
 
 pub map-refusals : MapRefusals
 unfolding beginSays fetchSays endSays all contains

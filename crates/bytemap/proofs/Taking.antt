@@ -1,9 +1,8 @@
 -- What a loop over a span makes of the values: those that it has passed are taken, and the others are as they were.
 use Prim.Native.Nat.{ℕ, zero, suc, _+_, _-_, _/_, _%_, _^_, _≤_, _<_}
 use native.Mathlib.Omega.{arith}
-use native.Mathlib.Nat.{zero-div}
 use mathlib.Core.Path.{_≡_, refl, ap, ap₂, sym, _∙_}
-use mathlib.Core.List.{List, [], _∷_, _++_, map, map-append}
+use mathlib.Core.List.{List, [], _++_, map, map-append}
 use mathlib.Core.Bool.{Bool, true, false, cond, _&&_, and-true}
 use lib.Bits.{bitAnd}
 use lib.Dec.{ltb, eqb}
@@ -16,7 +15,7 @@ use Rattle.octets.proofs.Overwrite.{overwrite-same, overwrite-part, overwrite-n
 use Rattle.state.specs.Records.{span}
 use Rattle.state.proofs.Places.{length-span, span-append, map-read}
 use Rattle.bits.specs.Bits.{bit, isSet, wordOf}
-use Rattle.bits.proofs.Word.{word-bit}
+use Rattle.bits.proofs.Word.{bit-of-zero, word-bit}
 use Rattle.bits.proofs.Operations.{bit-and, full-word}
 use Rattle.bytemap.specs.Values.{bitsFrom, taken}
 
@@ -24,10 +23,7 @@ use Rattle.bytemap.specs.Values.{bitsFrom, taken}
 pub bit-shifted : (w s j : ℕ) → bit (w / 2 ^ s) j ≡ bit w (s + j)
 bit-shifted w s j = ap (λ (n : ℕ). eqb (n % 2) 1) (shr-shr w s j)
 
--- a word of which no bit is set, and one of which all are; and one of which none of the n lowest is, and one of which all of these are
-pub no-bit : (j : ℕ) → bit 0 j ≡ false
-no-bit j = ap (λ (w : ℕ). eqb (w % 2) 1) (zero-div (2 ^ j))
-
+-- a word of which every bit is set; and one of which none of the n lowest is, and one of which all of these are
 pub every-bit : (j : ℕ) → j < 64 → bit (2 ^ 64 - 1) j ≡ true
 every-bit j inside = ap (λ (w : ℕ). bit w j) (full-word 64 64 (omega arith)) ∙ word-bit (λ i. ltb i 64) 64 j inside ∙ lt-ltb j 64 inside
 
@@ -38,7 +34,7 @@ masked w n j below inside =
 
 pub none-set : (w f n j : ℕ) → f ≡ wordOf (λ i. ltb i n) 64 → bitAnd w f ≡ 0 → j < n → j < 64 → bit w j ≡ false
 none-set w f n j is none below inside =
-    sym (masked w n j below inside) ∙ ap (λ (g : ℕ). bit (bitAnd w g) j) (sym is) ∙ ap (λ (v : ℕ). bit v j) none ∙ no-bit j
+    sym (masked w n j below inside) ∙ ap (λ (g : ℕ). bit (bitAnd w g) j) (sym is) ∙ ap (λ (v : ℕ). bit v j) none ∙ bit-of-zero j
 
 pub all-set : (w f n j : ℕ) → f ≡ wordOf (λ i. ltb i n) 64 → bitAnd w f ≡ f → j < n → j < 64 → bit w j ≡ true
 all-set w f n j is every below inside =

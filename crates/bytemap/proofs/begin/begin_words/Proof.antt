@@ -1,13 +1,12 @@
 -- Refused, the map is as it was. Accepted, it is cleared.
 use Prim.Native.Nat.{ℕ}
 use mathlib.Core.Path.{_≡_, ap, ap₂, sym, _∙_}
-use mathlib.Core.List.{List}
 use mathlib.Core.Bool.{true, false}
-use lib.ListN.{length, replicate}
+use lib.ListN.{replicate}
 use denote.Ref.{now}
 use borrow.Author.Needs.{needs}
 use Rattle.state.specs.Answers.{beginReply}
-use Rattle.state.specs.Verdict.{Reply, accepted}
+use Rattle.state.specs.Verdict.{accepted}
 use Rattle.state.proofs.Verdict.{says-of}
 use Rattle.bytemap.specs.Map.{Map, mapOf, cleared}
 use Rattle.bytemap.specs.Begin.{beginSays, beginMap}

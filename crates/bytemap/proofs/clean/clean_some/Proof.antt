@@ -1,5 +1,5 @@
 -- The loop's invariant: what is joined so far is zero just if the values passed are clean, and the bits that are left are those from there on.
-use Prim.Native.Nat.{ℕ, _+_, _-_, _/_, _^_, _≤_}
+use Prim.Native.Nat.{ℕ, _-_, _/_, _^_, _≤_}
 use native.Mathlib.Omega.{arith}
 use native.Mathlib.Nat.{div-one}
 use mathlib.Core.Path.{_≡_, ap, sym, _∙_}

@@ -6,8 +6,9 @@ use mathlib.Core.Bool.{true, false}
 use denote.Ref.{now}
 use borrow.Author.Needs.{needs}
 use Rattle.bits.specs.Bits.{bit}
+use Rattle.bits.proofs.Word.{bit-of-zero}
 use Rattle.bytemap.specs.Values.{clean}
-use Rattle.bytemap.proofs.Taking.{no-bit, every-bit}
+use Rattle.bytemap.proofs.Taking.{every-bit}
 use Rattle.bytemap.proofs.Cleaning.{clean-moved, clean-full}
 use Rattle.bytemap.proofs.clean.clean_word.Statement.{statement}
 use Rattle.bytemap.proofs.clean.clean_word.Tie as tie
@@ -15,7 +16,7 @@ use Rattle.bytemap.proofs.clean.clean_word.Tie as tie
 returns : tie.Need-returns
 returns c =
     let a = c .before .before .before .args in
-    let none : (j : ℕ) → bit (a .bits) j ≡ false = λ j. ap (λ (w : ℕ). bit w j) (c .before .if1 .taken) ∙ no-bit j in
+    let none : (j : ℕ) → bit (a .bits) j ≡ false = λ j. ap (λ (w : ℕ). bit w j) (c .before .if1 .taken) ∙ bit-of-zero j in
     c .clean-none .ensures ∙ ap (clean (λ x. false) (now (a .values)) 0) (c .before .before .before .pre)
     ∙ clean-moved (λ x. false) (bit (a .bits)) (now (a .values)) (now (a .values)) 0 0 64 (λ j h. (sym (none (0 + j)), refl))
 

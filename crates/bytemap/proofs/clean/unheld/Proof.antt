@@ -1,5 +1,4 @@
 -- The lowest bit is the number's remainder by two.
-use mathlib.Core.Path.{_≡_}
 use borrow.Author.Tests.{eq-eqb, ne-eqb}
 use Rattle.bits.proofs.Word.{bit-lowest}
 use Rattle.bytemap.proofs.clean.unheld.Statement.{statement}

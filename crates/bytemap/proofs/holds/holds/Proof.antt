@@ -1,5 +1,5 @@
 -- The three rules in their order: the first that is broken decides.
-use mathlib.Core.Path.{_≡_, refl, sym, _∙_}
+use mathlib.Core.Path.{sym, _∙_}
 use borrow.Author.Needs.{needs}
 use borrow.Author.Tests.{not-true, not-false}
 use Rattle.bytemap.specs.Map.{holds}

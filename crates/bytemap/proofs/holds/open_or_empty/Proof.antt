@@ -1,6 +1,5 @@
 -- A flag that is not 0 decides; else the words do.
 use native.Mathlib.Omega.{arith}
-use mathlib.Core.Path.{_≡_, refl, sym, _∙_}
 use borrow.Author.Needs.{needs}
 use borrow.Author.Tests.{le-ltb, lt-ltb}
 use Rattle.bytemap.proofs.holds.open_or_empty.Statement.{statement}

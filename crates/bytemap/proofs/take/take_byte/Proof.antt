@@ -1,6 +1,6 @@
 -- A held byte is written over itself, and any other is the window's.
 use native.Mathlib.Nat.{div-one}
-use mathlib.Core.Path.{_≡_, ap, sym, _∙_}
+use mathlib.Core.Path.{sym}
 use lib.Seq.{set-getD}
 use denote.Ref.{now}
 use borrow.Author.Needs.{needs}

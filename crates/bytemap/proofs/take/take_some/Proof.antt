@@ -8,7 +8,6 @@ use mathlib.Core.Bool.{cond}
 use lib.Pow.{shr-shr}
 use lib.ListN.{length, getD, set, length-set}
 use denote.Ref.{now}
-use borrow.Author.Needs.{needs}
 use Rattle.bits.specs.Bits.{bit}
 use Rattle.bytemap.specs.Values.{bitsFrom}
 use Rattle.bytemap.proofs.Taking.{passed, taken-none, passed-one}

@@ -9,8 +9,8 @@ use lib.ListN.{drop, getD, drop-of-length-le}
 use lib.Seq.{drop-cons}
 use denote.Ref.{now}
 use Rattle.bits.specs.Bits.{onesOf}
-use Rattle.bits.proofs.whole.ones.Statement.{statement}
-use Rattle.bits.proofs.whole.ones.Tie as tie
+use Rattle.bits.proofs.count.ones.Statement.{statement}
+use Rattle.bits.proofs.count.ones.Tie as tie
 
 abbrev Inv-loop : tie.InvT-loop
 Inv-loop words n₀ i₀ n i = (i ≤ 64) × (n ≤ 64 * i) × (n + onesOf (drop i words) ≡ onesOf words)

@@ -9,8 +9,8 @@ use Rattle.state.specs.Records.{span}
 use Rattle.bits.proofs.Counts.{count-bound}
 use Rattle.bits.proofs.Words.{Words}
 use Rattle.bits.proofs.Spans.{inner, inner-none, inner-more, inner-all}
-use Rattle.bits.proofs.span.count_span.Statement.{statement}
-use Rattle.bits.proofs.span.count_span.Tie as tie
+use Rattle.bits.proofs.count.count_span.Statement.{statement}
+use Rattle.bits.proofs.count.count_span.Tie as tie
 
 abbrev Inv-loop : tie.InvT-loop
 Inv-loop words low high end n₀ i₀ n i = (i ≤ 64) × (n ≡ count (inner words low high) (span 0 (64 * i)))

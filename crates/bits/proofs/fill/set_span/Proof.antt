@@ -5,8 +5,8 @@ use borrow.Author.Needs.{needs}
 use denote.Ref.{now}
 use Rattle.bits.proofs.Words.{Words}
 use Rattle.bits.proofs.Spans.{Filled, fill-from, fill-more, fill-all}
-use Rattle.bits.proofs.span.set_span.Statement.{statement}
-use Rattle.bits.proofs.span.set_span.Tie as tie
+use Rattle.bits.proofs.fill.set_span.Statement.{statement}
+use Rattle.bits.proofs.fill.set_span.Tie as tie
 
 abbrev Inv-loop : tie.InvT-loop
 Inv-loop words₀ low high end i₀ words i = (i ≤ 64) × Filled words₀ low high words i

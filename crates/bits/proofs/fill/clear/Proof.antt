@@ -7,8 +7,8 @@ use lib.ListN.{length, replicate, drop, length-set}
 use lib.Seq.{drop-length}
 use denote.Ref.{now}
 use borrow.Author.Fill.{fill-more}
-use Rattle.bits.proofs.whole.clear.Statement.{statement}
-use Rattle.bits.proofs.whole.clear.Tie as tie
+use Rattle.bits.proofs.fill.clear.Statement.{statement}
+use Rattle.bits.proofs.fill.clear.Tie as tie
 
 abbrev Inv-loop : tie.InvT-loop
 Inv-loop words₀ i₀ words i = (i ≤ length words₀) × (words ≡ replicate i 0 ++ drop i words₀) × (length words ≡ length words₀)

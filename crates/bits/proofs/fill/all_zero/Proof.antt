@@ -7,13 +7,13 @@ use mathlib.Core.Bool.{_&&_, and-true}
 use lib.Dec.{eqb}
 use lib.ListN.{length, drop, drop-of-length-le}
 use denote.Ref.{now}
-use Rattle.octets.specs.Lists.{all}
-use Rattle.bits.proofs.Zero.{one-more}
-use Rattle.bits.proofs.whole.all_zero.Statement.{statement}
-use Rattle.bits.proofs.whole.all_zero.Tie as tie
+use Rattle.octets.specs.Lists.{all, allZero}
+use Rattle.octets.proofs.Zero.{one-more}
+use Rattle.bits.proofs.fill.all_zero.Statement.{statement}
+use Rattle.bits.proofs.fill.all_zero.Tie as tie
 
 abbrev Inv-loop : tie.InvT-loop
-Inv-loop words or₀ i₀ or i = (eqb or 0 && all (λ w. eqb w 0) (drop i words)) ≡ all (λ w. eqb w 0) words
+Inv-loop words or₀ i₀ or i = (eqb or 0 && allZero (drop i words)) ≡ allZero words
 
 abbrev μ-loop : tie.MeasureT-loop
 μ-loop words or₀ i₀ or i = length words - i
