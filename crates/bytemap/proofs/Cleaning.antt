@@ -1,5 +1,5 @@
 -- Laws of values that are zero where their addresses are not held.
-use Prim.Native.Nat.{ℕ, zero, suc, _+_, _*_, _-_, _/_, _%_, _^_, _<_, _≤_}
+use Prim.Native.Nat.{ℕ, zero, suc, _+_, _*_, _-_, _/_, _%_, _<_, _≤_}
 use native.Mathlib.Omega.{arith}
 use native.Mathlib.Nat.{add-zero, zero-add}
 use mathlib.Core.Path.{_≡_, refl, ap, ap₂, sym, _∙_}
@@ -15,7 +15,6 @@ use Rattle.state.specs.Records.{span}
 use Rattle.state.proofs.Places.{span-append}
 use Rattle.bits.specs.Bits.{bit, isSet}
 use Rattle.bytemap.specs.Values.{clean}
-use Rattle.bytemap.proofs.Taking.{same-word}
 
 -- it depends on the tests and the values of the span alone, wherever they stand
 pub clean-moved :
@@ -72,19 +71,28 @@ clean-next held values or i before =
     go true = refl
     go false = sym (and-true (eqb (getD values i 0) 0))
 
--- the values of a stretch, lent as a part of all
-pub clean-lent : (words values : List ℕ) (x k : ℕ) → k ≤ 64 - x % 64 →
-    clean (bit (getD words (x / 64) 0 / 2 ^ (x % 64))) (take (x + k - x) (drop x values)) 0 k ≡ clean (isSet words) values x k
-clean-lent words values x k near =
-    let bits = getD words (x / 64) 0 / 2 ^ (x % 64) in
+-- values lent as a part of all
+pub clean-lent : (f g : ℕ → Bool) (values : List ℕ) (x k : ℕ) → ((j : ℕ) → j < k → f j ≡ g (x + j))
+    → clean f (take (x + k - x) (drop x values)) 0 k ≡ clean g values x k
+clean-lent f g values x k same =
     let lent = take (x + k - x) (drop x values) in
-    clean-moved (bit bits) (isSet words) lent values 0 x k
+    clean-moved f g lent values 0 x k
     (λ j h. (
-      ap (bit bits) (omega arith) ∙ same-word words x (x + j) (omega arith) (omega arith),
+      ap f (zero-add j) ∙ same j h,
       ap (λ (i : ℕ). getD lent i 0) (zero-add j) ∙ getD-take (x + k - x) (drop x values) j 0 (omega arith) ∙ getD-drop x values j 0,
     ))
 
--- stretch after stretch: one more that is clean, and one that is not
+-- the values of one word of the map
+pub clean-word-lent : (words values : List ℕ) (i : ℕ)
+    → clean (bit (getD words i 0)) (take (64 * i + 64 - 64 * i) (drop (64 * i) values)) 0 64 ≡ clean (isSet words) values (64 * i) 64
+clean-word-lent words values i =
+    clean-lent (bit (getD words i 0)) (isSet words) values (64 * i) 64
+    (λ j h.
+    let word : (64 * i + j) / 64 ≡ i = omega arith in
+    let place : (64 * i + j) % 64 ≡ j = omega arith in
+    sym (ap₂ (λ (w k : ℕ). bit (getD words w 0) k) word place))
+
+-- part after part: one more that is clean, and one that is not
 pub clean-on : (held : ℕ → Bool) (values : List ℕ) (x k : ℕ) → clean held values 0 x ≡ true → clean held values x k ≡ true → clean held values 0 (x + k) ≡ true
 clean-on held values x k before here = clean-parts held values 0 x k ∙ rw (before, zero-add x) here
 

@@ -1,6 +1,6 @@
 -- Laws of stretches: the zeros at the lower end of a word are bits that are not set, and those of the other word, with each bit turned round, are
 -- bits that are.
-use Prim.Native.Nat.{ℕ, zero, suc, _-_, _/_, _%_, _^_, _<_, _≤_, min}
+use Prim.Native.Nat.{ℕ, zero, suc, _-_, _/_, _%_, _^_, _<_, min}
 use native.Mathlib.Omega.{arith}
 use native.Mathlib.Nat.{not-suc-le-zero}
 use mathlib.Core.Path.{_≡_, refl, ap, sym, _∙_}
@@ -11,7 +11,7 @@ use borrow.Author.Tests.{eq-eqb, ne-eqb}
 use Rattle.bits.specs.Bits.{bit}
 use Rattle.bits.proofs.Word.{bit-lowest, bit-higher}
 use Rattle.bits.proofs.Operations.{bit-not}
-use Rattle.bytemap.specs.Values.{Stretch, Alike}
+use Rattle.bytemap.specs.Values.{Alike}
 
 below-trailing : (k w j : ℕ) → j < trailingZeros k w → bit w j ≡ false
 unfolding trailingZeros

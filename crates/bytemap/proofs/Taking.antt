@@ -2,21 +2,17 @@
 use Prim.Native.Nat.{ℕ, zero, suc, _+_, _-_, _/_, _%_, _^_, _≤_, _<_}
 use native.Mathlib.Omega.{arith}
 use mathlib.Core.Path.{_≡_, refl, ap, ap₂, sym, _∙_}
-use mathlib.Core.List.{List, [], _++_, map, map-append}
-use mathlib.Core.Bool.{Bool, true, false, cond, _&&_, and-true}
-use lib.Bits.{bitAnd}
-use lib.Dec.{ltb, eqb}
+use mathlib.Core.List.{List, _++_, map, map-append}
+use mathlib.Core.Bool.{Bool, true, false, cond}
+use lib.Dec.{eqb}
 use lib.Pow.{shr-shr}
-use lib.ListN.{length, getD, set, take, drop, length-map, length-take}
+use lib.ListN.{length, getD, take, drop, length-map, length-take}
 use lib.Seq.{take-all}
-use borrow.Author.Tests.{lt-ltb}
 use Rattle.octets.specs.Lists.{overwrite, part}
-use Rattle.octets.proofs.Overwrite.{overwrite-same, overwrite-part, overwrite-none, overwrite-then, overwrite-more, overwrite-above, length-overwrite}
+use Rattle.octets.proofs.Overwrite.{overwrite-same, overwrite-part, overwrite-none, overwrite-then, overwrite-above, length-overwrite}
 use Rattle.state.specs.Records.{span}
 use Rattle.state.proofs.Places.{length-span, span-append, map-read}
-use Rattle.bits.specs.Bits.{bit, isSet, wordOf}
-use Rattle.bits.proofs.Word.{bit-of-zero, word-bit}
-use Rattle.bits.proofs.Operations.{bit-and, full-word}
+use Rattle.bits.specs.Bits.{bit, isSet}
 use Rattle.bytemap.specs.Values.{bitsFrom, taken}
 
 -- a shift to the right moves the bits down
@@ -98,7 +94,7 @@ lent-taken held values window now room a n fits reach is =
     ∙ overwrite-part values bytes a (omega (arith, many))
 
 -- the bits of a word from that of an address on are those of the addresses from there on
-pub same-word : (words : List ℕ) (x y : ℕ) → x ≤ y → y < x + (64 - x % 64)
+same-word : (words : List ℕ) (x y : ℕ) → x ≤ y → y < x + (64 - x % 64)
     → bitsFrom x (getD words (x / 64) 0 / 2 ^ (x % 64)) y ≡ isSet words y
 same-word words x y after near =
     let word : y / 64 ≡ x / 64 = omega arith in

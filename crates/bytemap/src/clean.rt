@@ -31,19 +31,46 @@ fn clean_stretch(bits: u64, values: &[u8]) -> bool
     clean_none(values)
 }
 
-// The values of the whole map, stretch after stretch.
-pub(crate) fn clean(words: &[u64], values: &[u8]) -> bool
-    requires { ⌜ (length (now words) ≡ wordLimit) × (length (now values) ≡ mapLimit) ⌝ }
-    ensures { λ r. ⌜ r ≡ clean (isSet (now (words .entry))) (now (values .entry)) 0 mapLimit ⌝ }
+// The values of one word of the map, stretch after stretch.
+fn clean_stretches(bits: u64, values: &[u8]) -> bool
+    requires { ⌜ length (now values) ≡ 64 ⌝ }
+    ensures { λ r. ⌜ r ≡ clean (bit bits) (now (values .entry)) 0 64 ⌝ }
 {
     let mut x = 0;
-    while x < 4096 {
-        let rest = words[x / 64] >> (x % 64);
-        let k = alike(rest, 64 - x % 64);
+    while x < 64 {
+        let rest = bits >> x;
+        let k = alike(rest, 64 - x);
         if !clean_stretch(rest, &values[x..x + k]) {
             return false;
         }
         x = x + k;
+    }
+    true
+}
+
+// The same, where most words have no bit set.
+fn clean_word(bits: u64, values: &[u8]) -> bool
+    requires { ⌜ length (now values) ≡ 64 ⌝ }
+    ensures { λ r. ⌜ r ≡ clean (bit bits) (now (values .entry)) 0 64 ⌝ }
+{
+    if bits == 0 {
+        return clean_none(values);
+    }
+    clean_stretches(bits, values)
+}
+
+// The values of the whole map, word after word.
+pub(crate) fn clean(words: &[u64], values: &[u8]) -> bool
+    requires { ⌜ (length (now words) ≡ wordLimit) × (length (now values) ≡ mapLimit) ⌝ }
+    ensures { λ r. ⌜ r ≡ clean (isSet (now (words .entry))) (now (values .entry)) 0 mapLimit ⌝ }
+{
+    let mut i = 0;
+    while i < 64 {
+        let low = 64 * i;
+        if !clean_word(words[i], &values[low..low + 64]) {
+            return false;
+        }
+        i = i + 1;
     }
     true
 }

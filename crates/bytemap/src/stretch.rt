@@ -1,7 +1,4 @@
 // A stretch: addresses one behind the other, within a word of the map, that are all held or all not.
-ghost use mathlib.Core.Path.{_≡_};
-ghost use Prim.Native.Nat.{_<_, _≤_};
-ghost use Rattle.bits.specs.Bits.{bit};
 ghost use Rattle.bytemap.specs.Values.{Alike};
 use octets::lesser;
 

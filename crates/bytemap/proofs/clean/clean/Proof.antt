@@ -1,88 +1,61 @@
--- The loop's invariant: the values before x are clean.
-use Prim.Native.Nat.{ℕ, _+_, _-_, _/_, _%_, _^_, _≤_, _<_}
+-- The loop's invariant: the values of the first i words are clean.
+use Prim.Native.Nat.{ℕ, _+_, _*_, _-_, _≤_}
 use native.Mathlib.Omega.{arith}
 use mathlib.Core.Path.{_≡_, ap, sym, _∙_}
 use mathlib.Core.List.{List}
 use mathlib.Core.Bool.{true}
-use lib.ListN.{length, getD, take, drop, length-take, length-drop}
+use lib.ListN.{length-take, length-drop}
 use denote.Ref.{now}
-use borrow.Author.Needs.{needs}
 use borrow.Author.Tests.{not-true, not-false}
-use Rattle.bits.specs.Bits.{bit, isSet, mapLimit}
-use Rattle.bytemap.specs.Values.{clean, Stretch}
-use Rattle.bytemap.proofs.Cleaning.{clean-start, clean-lent, clean-on, clean-off}
+use Rattle.bits.specs.Bits.{isSet, mapLimit}
+use Rattle.bytemap.specs.Values.{clean}
+use Rattle.bytemap.proofs.Cleaning.{clean-start, clean-word-lent, clean-on, clean-off}
 use Rattle.bytemap.proofs.clean.clean.Statement.{statement}
 use Rattle.bytemap.proofs.clean.clean.Tie as tie
 
 abbrev Inv-loop : tie.InvT-loop
-Inv-loop words values x₀ x = (x ≤ 4096) × (clean (isSet words) values 0 x ≡ true)
+Inv-loop words values i₀ i = (i ≤ 64) × (clean (isSet words) values 0 (64 * i) ≡ true)
 
 abbrev μ-loop : tie.MeasureT-loop
-μ-loop words values x₀ x = 4096 - x
+μ-loop words values i₀ i = 64 - i
 
 loop-holds : tie.Need-loop-holds Inv-loop μ-loop
 loop-holds c = let a = c .before .before .args in (omega arith, clean-start (isSet (now (a .words))) (now (a .values)))
 
--- the stretch of a turn: one address at least, within the word
-module _ (c : tie.After-alike Inv-loop μ-loop) where
-  abbrev loop-at : tie.At-loop Inv-loop μ-loop
-  loop-at = c .before .before .before
-
+-- the call on a word's values tells of the map's
+module _ (c : tie.After-clean-word Inv-loop μ-loop) where
   abbrev at : ℕ
-  at = loop-at .loop .x
-
-  abbrev many : ℕ
-  many = c .alike .result
+  at = c .before .before .before .before .loop .i
 
   abbrev words : List ℕ
-  words = now (loop-at .before .before .before .args .words)
+  words = now (c .before .before .before .before .before .before .before .args .words)
 
   abbrev values : List ℕ
-  values = now (loop-at .before .before .before .args .values)
+  values = now (c .before .before .before .before .before .before .before .args .values)
 
-  in-word : many ≤ 64 - at % 64
-  in-word = c .alike .ensures .most
+  tells : c .clean-word .result ≡ clean (isSet words) values (64 * at) 64
+  tells = c .clean-word .ensures ∙ clean-word-lent words values at
 
-  inside : at + many ≤ 4096
-  inside = omega (arith, in-word)
-
-  some : 0 < many
-  some = c .alike .ensures .some (omega arith)
-
-  lent-length : length (take (at + many - at) (drop at values)) ≡ many
-  lent-length = simp (length-take, length-drop) (omega (arith, inside))
-
--- the call on a stretch's values tells of the map's
-tells : (c : tie.After-clean-stretch Inv-loop μ-loop) → let t = c .before .before in c .clean-stretch .result ≡ clean (isSet (words t)) (values t) (at t) (many t)
-tells c =
-    let t = c .before .before in
-    let bits = getD (words t) (at t / 64) 0 / 2 ^ (at t % 64) in
-    c .clean-stretch .ensures ∙ ap (clean (bit bits) (take (at t + many t - at t) (drop (at t) (values t))) 0) (lent-length t)
-    ∙ clean-lent (words t) (values t) (at t) (many t) (in-word t)
-
-clean-stretch-requires : tie.Need-clean-stretch-requires Inv-loop μ-loop
-clean-stretch-requires c κs =
-    let t = c .before in
-    let size = lent-length t in
-    record { same = λ j h. t .alike .ensures .stretch .same j (omega (arith, size)) }
+clean-word-requires : tie.Need-clean-word-requires Inv-loop μ-loop
+clean-word-requires c κs = simp (length-take, length-drop) (omega arith)
 
 returns : tie.Need-returns Inv-loop μ-loop
 returns c =
     let w = c .before in
-    let t = w .before .before in
-    sym (clean-off (isSet (words t)) (values t) (at t) (many t) mapLimit (inside t) (sym (tells w) ∙ not-true _ (c .if1 .taken)))
+    sym (clean-off (isSet (words w)) (values w) (64 * at w) 64 mapLimit (omega arith) (sym (tells w) ∙ not-true _ (c .if1 .taken)))
 
 loop-again : tie.Need-loop-again Inv-loop μ-loop
 loop-again c =
     let w = c .before in
-    let t = w .before .before in
-    (inside t, clean-on (isSet (words t)) (values t) (at t) (many t) (loop-at t .loop .inv .1) (sym (tells w) ∙ not-false _ (c .if1 .left)))
+    let next : 64 * at w + 64 ≡ 64 * (at w + 1) = omega arith in
+    let clean-then = clean-on (isSet (words w)) (values w) (64 * at w) 64 (w .before .before .before .before .loop .inv .1) (sym (tells w) ∙ not-false _ (c .if1 .left)) in
+    (omega arith, ap (clean (isSet (words w)) (values w) 0) (sym next) ∙ clean-then)
 
 returns-2 : tie.Need-returns-2 Inv-loop μ-loop
 returns-2 c =
     let l = c .before in
     let a = l .before .before .before .args in
-    let all : l .loop .x ≡ mapLimit = omega arith in
+    let all : 64 * l .loop .i ≡ mapLimit = omega arith in
     sym (ap (clean (isSet (now (a .words))) (now (a .values)) 0) (sym all) ∙ l .loop .inv .1)
 
 pub clean-spec : {M : Type 1} → statement M
@@ -96,14 +69,12 @@ clean-spec =
     (λ c. omega arith)
     (λ c. omega arith)
     (λ c. omega arith)
-    (λ c κs. search needs)
-    (λ c. omega (arith, inside c))
     (λ c. omega arith)
     (λ c. omega arith)
-    (λ c. omega (arith, inside c))
-    clean-stretch-requires
+    (λ c. omega arith)
+    clean-word-requires
     returns
-    (λ c. omega (arith, inside (c .before .before .before)))
-    (λ c. omega (arith, some (c .before .before .before)))
+    (λ c. omega arith)
+    (λ c. omega arith)
     loop-again
     returns-2)
