@@ -10,7 +10,7 @@ use Rattle.state.proofs.Verdict.{none-applies}
 use Rattle.bits.specs.Bits.{wordLimit, mapLimit}
 use Rattle.bytemap.specs.Map.{Map}
 use Rattle.bytemap.specs.Fetch.{fetchSays}
-use Rattle.bytemap.specs.Values.{Fits}
+use Rattle.bytemap.specs.Delivery.{Fits}
 
 pub fetched :
     (m : Map) (windowLen destLen a n : ℕ) → length (m .words) ≡ wordLimit → length (m .values) ≡ mapLimit

@@ -5,14 +5,14 @@ ghost use Rattle.state.specs.Answers.{fetchReply};
 ghost use Rattle.bits.specs.Bits.{wordLimit, mapLimit};
 ghost use Rattle.bytemap.specs.Map.{mapOf};
 ghost use Rattle.bytemap.specs.Fetch.{fetchSays, Fetches};
-ghost use Rattle.bytemap.specs.Values.{Fits, Delivers};
+ghost use Rattle.bytemap.specs.Delivery.{Fits, Delivers};
 use crate::ByteMap;
 use crate::holds::holds;
-use crate::take::take;
 use state::CacheState;
 use state::FetchAnswer;
 use state::Refusal;
 use state::range;
+use stretches::take::take;
 
 fn judge(
     flag: u64,

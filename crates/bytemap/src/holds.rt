@@ -6,8 +6,8 @@ ghost use lib.ListN.{length};
 ghost use Rattle.octets.specs.Lists.{allZero};
 ghost use Rattle.bits.specs.Bits.{wordLimit, mapLimit};
 ghost use Rattle.bytemap.specs.Map.{mapOf, holds};
-use crate::clean::clean;
 use state::CacheState;
+use stretches::clean::clean;
 
 // Whether the command is open, or no bit is set.
 fn open_or_empty(flag: u64, words: &[u64]) -> bool

@@ -4,12 +4,9 @@ ghost use mathlib.Core.Path.{_≡_};
 ghost use Rattle.bytemap.specs.Map.{fresh, mapOf};
 
 pub mod begin;
-mod clean;
 pub mod end;
 pub mod fetch;
 mod holds;
-mod stretch;
-mod take;
 
 pub struct ByteMap {
     // 0 if the command is closed

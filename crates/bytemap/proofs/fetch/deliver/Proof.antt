@@ -9,7 +9,7 @@ use borrow.Author.Needs.{needs}
 use Rattle.octets.specs.Lists.{overwrite}
 use Rattle.state.specs.Records.{inSpan}
 use Rattle.bits.specs.Bits.{isSet, wordsOf}
-use Rattle.bytemap.proofs.Taking.{lent-taken}
+use Rattle.stretches.proofs.Taking.{lent-taken}
 use Rattle.bytemap.proofs.fetch.deliver.Statement.{statement}
 use Rattle.bytemap.proofs.fetch.deliver.Tie as tie
 

@@ -9,7 +9,7 @@ use Rattle.state.specs.Verdict.{Reply, accepted}
 use Rattle.state.proofs.Verdict.{says-of}
 use Rattle.bytemap.specs.Map.{Map, mapOf}
 use Rattle.bytemap.specs.Fetch.{fetchSays, fetchMap, fetchDest}
-use Rattle.bytemap.specs.Values.{Fits}
+use Rattle.bytemap.specs.Delivery.{Fits}
 use Rattle.bytemap.proofs.Accepted.{fetched}
 use Rattle.bytemap.proofs.fetch.fetch_words.Statement.{statement}
 use Rattle.bytemap.proofs.fetch.fetch_words.Tie as tie
