@@ -7,6 +7,7 @@ ghost use Rattle.bytemap.specs.Map.{mapOf};
 ghost use Rattle.bytemap.specs.Begin.{beginSays, Begins};
 use crate::ByteMap;
 use crate::holds::holds;
+use crate::reset::reset;
 use state::BeginAnswer;
 use state::Refusal;
 
@@ -32,9 +33,7 @@ fn begin_words(flag: &mut u64, words: &mut [u64], values: &mut [u8]) -> BeginAns
     match answer {
         BeginAnswer::Refused(why) => BeginAnswer::Refused(why),
         BeginAnswer::Done => {
-            bits::clear(words);
-            octets::clear(values);
-            *flag = 1;
+            reset(flag, words, values, 1);
             BeginAnswer::Done
         }
     }

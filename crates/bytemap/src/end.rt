@@ -7,6 +7,7 @@ ghost use Rattle.bytemap.specs.Map.{mapOf};
 ghost use Rattle.bytemap.specs.End.{endSays, Ends};
 use crate::ByteMap;
 use crate::holds::holds;
+use crate::reset::reset;
 use state::EndAnswer;
 use state::Refusal;
 
@@ -35,9 +36,7 @@ fn end_words(flag: &mut u64, words: &mut [u64], values: &mut [u8]) -> EndAnswer
     match answer {
         EndAnswer::Refused(why) => EndAnswer::Refused(why),
         EndAnswer::Done { records, bytes } => {
-            bits::clear(words);
-            octets::clear(values);
-            *flag = 0;
+            reset(flag, words, values, 0);
             EndAnswer::Done { records, bytes }
         }
     }

@@ -7,6 +7,7 @@ pub mod begin;
 pub mod end;
 pub mod fetch;
 mod holds;
+mod reset;
 
 pub struct ByteMap {
     // 0 if the command is closed

@@ -37,7 +37,8 @@ clean-moved f g l m a b (suc n) same =
 pub clean-full : (held : ℕ → Bool) (values : List ℕ) (a n : ℕ) → ((x : ℕ) → a ≤ x → x < a + n → held x ≡ true) → clean held values a n ≡ true
 unfolding all span
 clean-full held values a zero every = refl
-clean-full held values a (suc n) every = rw (every a (omega arith) (omega arith)) (clean-full held values (suc a) n (λ x h k. every x (omega arith) (omega arith)))
+clean-full held values a (suc n) every =
+    rw (every a (omega arith) (omega arith)) (clean-full held values (suc a) n (λ x h k. every x (omega arith) (omega arith)))
 
 -- in two parts
 all-append : (test : ℕ → Bool) (xs ys : List ℕ) → all test (xs ++ ys) ≡ (all test xs && all test ys)

@@ -48,7 +48,8 @@ loop-again : tie.Need-loop-again Inv-loop μ-loop
 loop-again c =
     let w = c .before in
     let next : 64 * at w + 64 ≡ 64 * (at w + 1) = omega arith in
-    let clean-then = clean-on (isSet (words w)) (values w) (64 * at w) 64 (w .before .before .before .before .loop .inv .1) (sym (tells w) ∙ not-false _ (c .if1 .left)) in
+    let before = w .before .before .before .before .loop .inv .1 in
+    let clean-then = clean-on (isSet (words w)) (values w) (64 * at w) 64 before (sym (tells w) ∙ not-false _ (c .if1 .left)) in
     (omega arith, ap (clean (isSet (words w)) (values w) 0) (sym next) ∙ clean-then)
 
 returns-2 : tie.Need-returns-2 Inv-loop μ-loop

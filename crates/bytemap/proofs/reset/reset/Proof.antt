@@ -1,0 +1,18 @@
+-- Words and values are as many zeros as there were numbers.
+use Prim.Native.Nat.{ℕ}
+use mathlib.Core.Path.{_≡_, ap, ap₂, _∙_}
+use mathlib.Core.List.{List}
+use lib.ListN.{replicate}
+use borrow.Author.Needs.{needs}
+use Rattle.bytemap.specs.Map.{mapOf}
+use Rattle.bytemap.proofs.reset.reset.Statement.{statement}
+use Rattle.bytemap.proofs.reset.reset.Tie as tie
+
+returns : tie.Need-returns
+returns c =
+    let s = c .before .before .before .before .before .before .before .before .before .before in
+    let zeros : (n : ℕ) → List ℕ = λ n. replicate n 0 in
+    ap₂ (mapOf (s .args .to)) (c .before .before .before .before .before .before .clear .ensures ∙ ap zeros (s .pre .0)) (c .before .before .clear2 .ensures ∙ ap zeros (s .pre .1))
+
+pub reset-spec : {M : Type 1} → statement M
+reset-spec = tie.close (tie.spec (λ c κs. search needs) (λ c κs. search needs) (λ c. search needs) (λ c. search needs) returns)
