@@ -48,15 +48,8 @@ impl Library {
                 Answer::status(framed.status, [framed.length as u64])
             }
             Call::Replay(_) => self.replay(data),
-            Call::MapFresh => {
-                boundary::map_fresh(&mut self.map);
-                Answer::new([])
-            }
-            Call::MapBegin => Answer::status(boundary::map_begin(&mut self.map).status, []),
-            Call::MapFetch { span } => self.map_fetch(span),
-            Call::MapEnd => {
-                let ended = boundary::map_end(&mut self.map);
-                Answer::status(ended.status, [ended.records as u64, ended.bytes as u64])
+            Call::MapFresh | Call::MapBegin | Call::MapFetch { .. } | Call::MapEnd => {
+                self.make_on_map(call)
             }
             _ => self.make_on_state(call, data),
         }
@@ -78,6 +71,23 @@ impl Library {
                 Answer::status(shown.status, record)
             }
             _ => unreachable!("{call} is no call of the cache"),
+        }
+    }
+
+    /// The calls of the byte map.
+    fn make_on_map(&mut self, call: &Call) -> Answer {
+        match *call {
+            Call::MapFresh => {
+                boundary::map_fresh(&mut self.map);
+                Answer::new([])
+            }
+            Call::MapBegin => Answer::status(boundary::map_begin(&mut self.map).status, []),
+            Call::MapFetch { span } => self.map_fetch(span),
+            Call::MapEnd => {
+                let ended = boundary::map_end(&mut self.map);
+                Answer::status(ended.status, [ended.records as u64, ended.bytes as u64])
+            }
+            _ => unreachable!("{call} is no call of the byte map"),
         }
     }
 

@@ -57,11 +57,19 @@ fn line(input: &mut Input) -> Line {
         29..=30 => return Line::Set(words(input)),
         31 if input.byte() % 2 == 0 => Call::Fresh,
         31 => Call::Release,
-        32 => return Line::Set(map_window(input)),
-        33 => return Line::Set(map_part(input)),
-        34 => Call::MapBegin,
-        35 if input.byte() % 8 == 0 => Call::MapFresh,
-        35 => Call::MapEnd,
+        _ => return map_line(input),
+    };
+    Line::Call(call, vec![])
+}
+
+/// A line of the byte map.
+fn map_line(input: &mut Input) -> Line {
+    let call = match input.byte() % 16 {
+        0 => return Line::Set(map_window(input)),
+        1..=2 => return Line::Set(map_part(input)),
+        3..=4 => Call::MapBegin,
+        5 if input.byte() % 8 == 0 => Call::MapFresh,
+        5 => Call::MapEnd,
         _ => Call::MapFetch {
             span: map_span(input),
         },
@@ -199,7 +207,7 @@ mod tests {
         assert!(lines(&[]).is_empty());
         assert_eq!(lines(&[0]).len(), 1);
         assert_eq!(lines(&[31; 1_000]).len(), LINES);
-        assert_eq!(lines(&[34; 1_000]).len(), LINES);
+        assert_eq!(lines(&[36; 1_000]).len(), LINES);
     }
 
     #[test]
@@ -215,7 +223,7 @@ mod tests {
         assert_eq!(lines(&bytes), wanted);
         let fetch = Call::MapFetch { span };
         let wanted = [Call::MapBegin, fetch, Call::MapEnd].map(|call| Line::Call(call, vec![]));
-        assert_eq!(lines(&[34, 36, 0, 64, 0, 9, 35, 1]), wanted);
+        assert_eq!(lines(&[32, 3, 33, 6, 0, 64, 0, 9, 39, 5, 1]), wanted);
     }
 
     #[test]
