@@ -227,23 +227,18 @@ mod tests {
 
     #[test]
     fn one_changed_part_of_the_map_is_told() {
-        let damages: [(&str, fn(&mut ByteMap)); 3] = [
-            ("the map's open differs first at place 0: ", |map| {
-                map.open = 2
-            }),
-            ("the map's words differs first at place 63: ", |map| {
-                map.words[63] = 1 << 63
-            }),
-            ("the map's values differs first at place 4095: ", |map| {
-                map.values[4_095] = 1
-            }),
-        ];
-        for (first, damage) in damages {
+        for (part, place) in [("open", 0), ("words", 63), ("values", 4_095)] {
             let mut pair = after("map-begin = 0\nlend window 64\nmap-fetch 3+4 = 0 4 0");
-            damage(&mut pair.library.map);
+            let map = &mut pair.library.map;
+            match part {
+                "open" => map.open ^= 1 << 63,
+                "words" => map.words[place] ^= 1 << 63,
+                _ => map.values[place] ^= 1 << 7,
+            }
             let told = complaint(&mut pair, "show 0 0");
-            assert!(told.contains(first), "{told}");
-            assert_eq!(complaint(&mut pair, "map-fetch 3+4"), "");
+            let first = format!("the map's {part} differs first at place {place}: ");
+            assert!(told.contains(&first), "{told}");
+            assert_eq!(complaint(&mut pair, "map-fetch 3+4 = 0 0 4"), "");
         }
     }
 
