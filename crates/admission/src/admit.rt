@@ -7,9 +7,9 @@ ghost use Rattle.state.specs.Words.{stateOf};
 ghost use Rattle.state.specs.Verdict.{replied, verdict};
 ghost use Rattle.cache.specs.Fetch.{admitChecks};
 ghost use Rattle.admission.specs.Plan.{admissionReply};
-use cache::range;
 use state::CacheState;
 use state::Refusal;
+use state::range;
 use words::command::is_open;
 
 pub enum Admission {

@@ -10,8 +10,7 @@ use Rattle.state.specs.Limits.{commandLimit, storeSize}
 use Rattle.state.specs.Records.{total}
 use Rattle.state.specs.State.{recordsOf, isOpen}
 use Rattle.bits.specs.Bits.{mapLimit}
-use Rattle.bytemap.specs.Map.{heldCount, runsOf, fresh}
-use Rattle.bytemap.specs.Map as bytemap
+use Rattle.bytemap.specs.Map.{heldCount, runsOf, fresh, isOpen as isMapOpen}
 use Rattle.bytemap.specs.Runs as bytemap
 use Rattle.cache.specs.Runs.{Call, begin, fetch, end, start, along, ran, says, delivers, destAfter, windowAfter}
 
@@ -38,7 +37,7 @@ module _ (store : List ℕ) (c : ℕ) (ps : List bytemap.Call) where
     pub windows : bytemap.along bytemap.windowAfter fresh ps ≡ along windowAfter (start store) commands
     -- and after the list, which may be any part of a longer one: whether the command is open, the runs of set bits and the records, the sum of
     -- ones and the number of distinct bytes
-    pub opened : bytemap.isOpen (bytemap.ran fresh ps) ≡ isOpen (ran (start store) commands .state) c
+    pub opened : isMapOpen (bytemap.ran fresh ps) ≡ isOpen (ran (start store) commands .state) c
     pub records : runsOf (bytemap.ran fresh ps) ≡ recordsOf (ran (start store) commands .state) c
     pub bytes : heldCount (bytemap.ran fresh ps) ≡ total (recordsOf (ran (start store) commands .state) c)
 

@@ -1,13 +1,12 @@
 -- Bits of words: one for each address, 64 in a word, the lowest address in the lowest bit (request F-2 of 02, the agreed changes;
 -- docs/RULES.md has its rules).
 use Prim.Native.Nat.{ℕ, zero, suc, _+_, _*_, _/_, _%_, _^_}
-use mathlib.Core.Path.{_≡_}
 use mathlib.Core.List.{List, [], _∷_, map}
-use mathlib.Core.Bool.{Bool, cond, _&&_}
+use mathlib.Core.Bool.{Bool, cond, not, _&&_}
 use lib.Dec.{ltb, eqb}
 use lib.Count.{ones}
 use lib.ListN.{length, getD}
-use Rattle.octets.specs.Lists.{count, all}
+use Rattle.octets.specs.Lists.{all}
 use Rattle.state.specs.Records.{span}
 
 -- how many words there are, and how many addresses
@@ -30,6 +29,10 @@ unfoldable pub wordOf : (ℕ → Bool) → (k : ℕ) → ℕ
 wordOf test zero = 0
 wordOf test (suc k) = cond (test 0) 1 0 + wordOf (λ j. test (suc j)) k * 2
 
+-- the word of the 64 addresses from 64 times i on
+abbrev pub wordAt : (ℕ → Bool) → (i : ℕ) → ℕ
+wordAt test i = wordOf (λ j. test (64 * i + j)) 64
+
 -- the words in which the bit of an address is set exactly if the address passes
 unfoldable pub wordsOf : (ℕ → Bool) → List ℕ
 wordsOf test = map (λ i. wordOf (λ j. test (64 * i + j)) 64) (span 0 wordLimit)
@@ -42,3 +45,12 @@ onesOf (w ∷ ws) = ones w + onesOf ws
 -- words as a map has them: 64, each of 64 bits
 abbrev pub areWords : List ℕ → Bool
 areWords words = eqb (length words) wordLimit && all (λ w. ltb w (2 ^ 64)) words
+
+-- Does the place below x pass the test? Of the place below the first it is told.
+abbrev pub lower : (first : Bool) → (ℕ → Bool) → (x : ℕ) → Bool
+lower first test zero = first
+lower first test (suc x) = test x
+
+-- does a run start at x, which passes where the place below it does not?
+abbrev pub startsAt : (first : Bool) → (ℕ → Bool) → (x : ℕ) → Bool
+startsAt first test x = test x && not (lower first test x)

@@ -2,10 +2,9 @@
 use mathlib.Core.Path.{_≡_}
 use mathlib.Core.List.{List, [], _∷_}
 use mathlib.Core.Bool.{cond}
-use Rattle.state.specs.Refusals.{number}
-use Rattle.state.specs.Verdict.{Reply, refused, replied, accepted, Check, verdict}
-use Rattle.bytemap.specs.declared.begin.BeginAnswer.{BeginAnswer}
-use Rattle.bytemap.specs.declared.begin.BeginAnswer.the-variants.{Done, Refused}
+use Rattle.state.specs.declared.answer.BeginAnswer.{BeginAnswer}
+use Rattle.state.specs.Answers.{beginReply}
+use Rattle.state.specs.Verdict.{Reply, replied, accepted, Check, verdict}
 use Rattle.bytemap.specs.Map.{Map, cleared, mapBroken, alreadyOpen}
 
 -- 20, 22
@@ -17,11 +16,6 @@ beginSays m = verdict (beginChecks m) (replied [])
 
 unfoldable pub beginMap : Map → Map
 beginMap m = cond (accepted (beginSays m)) (cleared 1) m
-
--- what each answer of the code stands for
-abbrev pub beginReply : BeginAnswer → Reply
-beginReply Done = replied []
-beginReply (Refused r) = refused (number r)
 
 -- the call: its answer, and the map after it
 pub record Begins (m : Map) (r : BeginAnswer) (m′ : Map) : Type 0 where

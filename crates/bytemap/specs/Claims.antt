@@ -10,7 +10,7 @@ use Rattle.state.specs.Verdict.{accepted, keepsTo, Check, numbers}
 use Rattle.bits.specs.Bits.{mapLimit, isSet, onesOf, areWords}
 use Rattle.bytemap.specs.Map.{Map}
 use Rattle.bytemap.specs.Begin.{beginChecks}
-use Rattle.bytemap.specs.Fetch.{fetchChecks, freshCount, replayedCount}
+use Rattle.bytemap.specs.Fetch.{fetchChecks}
 use Rattle.bytemap.specs.End.{endChecks}
 use Rattle.bytemap.specs.Runs.{Call, begin, fetch, end, says, after, destGiven, destAfter}
 

@@ -3,10 +3,9 @@ use mathlib.Core.Path.{_≡_}
 use mathlib.Core.List.{List, [], _∷_}
 use mathlib.Core.Bool.{cond}
 use lib.ListN.{length}
-use Rattle.state.specs.Refusals.{number}
-use Rattle.state.specs.Verdict.{Reply, refused, replied, accepted, Check, verdict}
-use Rattle.bytemap.specs.declared.end.EndAnswer.{EndAnswer}
-use Rattle.bytemap.specs.declared.end.EndAnswer.the-variants.{Done, Refused}
+use Rattle.state.specs.declared.answer.EndAnswer.{EndAnswer}
+use Rattle.state.specs.Answers.{endReply}
+use Rattle.state.specs.Verdict.{Reply, replied, accepted, Check, verdict}
 use Rattle.bytemap.specs.Map.{Map, heldCount, runsOf, cleared, mapBroken, notOpen}
 
 -- 20, 21
@@ -19,11 +18,6 @@ endSays m = verdict (endChecks m) (replied (length (runsOf m) ∷ heldCount m �
 
 unfoldable pub endMap : Map → Map
 endMap m = cond (accepted (endSays m)) (cleared 0) m
-
--- what each answer of the code stands for
-abbrev pub endReply : EndAnswer → Reply
-endReply (Done records bytes) = replied (records ∷ bytes ∷ [])
-endReply (Refused r) = refused (number r)
 
 -- the call: its answer, and the map after it
 pub record Ends (m : Map) (r : EndAnswer) (m′ : Map) : Type 0 where

@@ -12,11 +12,11 @@ use Rattle.state.specs.Limits.{recordLimit}
 use Rattle.state.specs.Records.{inSpan, span}
 use Rattle.state.specs.Refusals.{number}
 use Rattle.state.specs.Runs.{runsFrom}
-use Rattle.state.specs.Verdict.{Reply, refused, replied, accepted, Check, _⇒_, verdict}
+use Rattle.state.specs.declared.answer.FetchAnswer.{FetchAnswer}
+use Rattle.state.specs.Answers.{fetchReply}
+use Rattle.state.specs.Verdict.{Reply, replied, accepted, Check, _⇒_, verdict}
 use Rattle.state.specs.Checks.{lengthTooLong, outsideWindow, bufferTooShort}
 use Rattle.bits.specs.Bits.{mapLimit, wordsOf}
-use Rattle.bytemap.specs.declared.fetch.FetchAnswer.{FetchAnswer}
-use Rattle.bytemap.specs.declared.fetch.FetchAnswer.the-variants.{Done, Refused}
 use Rattle.bytemap.specs.Map.{Map, isHeld, windowBeyondMap, mapBroken, notOpen}
 
 module _ (m : Map) (a n : ℕ) where
@@ -54,25 +54,20 @@ module _ (m : Map) (windowLen destLen a n : ℕ) where
 abbrev pub sees : Map → (window : List ℕ) → ℕ → ℕ
 sees m window x = cond (isHeld m x) (getD (m .values) x 0) (getD window x 0)
 
-module _ (m : Map) (window dest : List ℕ) (a n : ℕ) where
-  -- the bytes of the span, as the command sees them
-  abbrev pub seen : List ℕ
-  seen = map (sees m window) (span a n)
+-- the bytes of a span, as it sees them
+abbrev pub seen : Map → (window : List ℕ) → (a n : ℕ) → List ℕ
+seen m window a n = map (sees m window) (span a n)
 
+module _ (m : Map) (window dest : List ℕ) (a n : ℕ) where
   -- the span is held, and so are these bytes
   unfoldable pub fetchMap : Map
   fetchMap =
       cond (accepted (fetchSays m (length window) (length dest) a n))
-      (record { flag = m .flag; words = wordsOf (heldThen m a n); values = overwrite (m .values) a seen }) m
+      (record { flag = m .flag; words = wordsOf (heldThen m a n); values = overwrite (m .values) a (seen m window a n) }) m
 
   -- they go to the front of the destination; the places behind them stay
   unfoldable pub fetchDest : List ℕ
-  fetchDest = cond (accepted (fetchSays m (length window) (length dest) a n)) (overwrite dest 0 seen) dest
-
--- what each answer of the code stands for
-abbrev pub fetchReply : FetchAnswer → Reply
-fetchReply (Done fresh replayed) = replied (fresh ∷ replayed ∷ [])
-fetchReply (Refused r) = refused (number r)
+  fetchDest = cond (accepted (fetchSays m (length window) (length dest) a n)) (overwrite dest 0 (seen m window a n)) dest
 
 -- the call: its answer, the map and the destination after it
 pub record Fetches (m : Map) (window dest : List ℕ) (a n : ℕ) (r : FetchAnswer) (m′ : Map) (dest′ : List ℕ) : Type 0 where

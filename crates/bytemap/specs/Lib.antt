@@ -1,4 +1,5 @@
 pub mod Map
+pub mod Values
 pub mod Begin
 pub mod Fetch
 pub mod End

@@ -5,7 +5,7 @@ use mathlib.Core.List.{List}
 use mathlib.Core.Bool.{Bool, not, _&&_, _||_}
 use lib.Dec.{ltb, leb, eqb}
 use lib.ListN.{length, getD, replicate}
-use Rattle.octets.specs.Lists.{all}
+use Rattle.octets.specs.Lists.{all, allZero}
 use Rattle.state.specs.declared.Record.{Record}
 use Rattle.state.specs.declared.refusal.Refusal.the-variants.{WindowBeyondMap, StateBroken, CommandNotOpen, CommandAlreadyOpen}
 use Rattle.state.specs.Limits.{recordLimit}
@@ -20,6 +20,9 @@ pub record Map : Type 0 where
   pub flag : ℕ
   pub words : List ℕ
   pub values : List ℕ
+
+abbrev pub mapOf : (flag : ℕ) (words values : List ℕ) → Map
+mapOf flag words values = record { flag = flag; words = words; values = values }
 
 abbrev pub isOpen : Map → Bool
 isOpen m = ltb 0 (m .flag)
@@ -46,7 +49,7 @@ fresh = cleared 0
 
 -- no bit is set
 abbrev pub isEmpty : Map → Bool
-isEmpty m = all (λ w. eqb w 0) (m .words)
+isEmpty m = allZero (m .words)
 
 -- an address that is not held has the value zero
 abbrev pub isClean : Map → Bool

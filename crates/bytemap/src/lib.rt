@@ -1,4 +1,38 @@
-// The byte map: a small engine for one command and a window of at most 4,096 bytes, with one bit and one held value for each address.
+// The byte map: a small engine for one command and a window of at most 4,096 bytes. There is one bit and one held value for each address, and
+// a word that says whether the command is open. Whoever calls lends the three, and the calls change them where they stand.
+ghost use mathlib.Core.Path.{_≡_};
+ghost use Rattle.bytemap.specs.Map.{fresh, mapOf};
+
 pub mod begin;
+mod clean;
 pub mod end;
 pub mod fetch;
+mod holds;
+mod take;
+
+pub struct ByteMap {
+    // 0 if the command is closed
+    pub flag: u64,
+    // the bit of address x is bit x % 64 of word x / 64
+    pub words: [u64; ByteMap::WORDS],
+    // the held byte of each address, and 0 where none is held
+    pub values: [u8; ByteMap::ADDRESSES],
+}
+
+impl ByteMap {
+    // How many addresses there are, and so the longest window.
+    pub const ADDRESSES: usize = 4096;
+    // The words of the map, of 64 bits each.
+    pub const WORDS: usize = 64;
+
+    // The command is closed, and nothing is held.
+    pub fn fresh() -> ByteMap
+        ensures { λ r. ⌜ mapOf (r .flag) (r .words) (r .values) ≡ fresh ⌝ }
+    {
+        ByteMap {
+            flag: 0,
+            words: [0; ByteMap::WORDS],
+            values: [0; ByteMap::ADDRESSES],
+        }
+    }
+}

@@ -7,11 +7,10 @@ use mathlib.Core.Bool.{false, cond}
 use lib.ListN.{length}
 use Rattle.state.specs.State.{State, open-with, withCommand}
 use Rattle.state.specs.Words.{stateOf}
-use Rattle.state.specs.Refusals.{number}
-use Rattle.state.specs.Verdict.{Reply, refused, replied, accepted, Check, verdict}
+use Rattle.state.specs.Verdict.{Reply, replied, accepted, Check, verdict}
+use Rattle.state.specs.declared.answer.BeginAnswer.{BeginAnswer}
+use Rattle.state.specs.Answers.{beginReply}
 use Rattle.state.specs.Checks.{commandTooHigh, storeWrongSize, stateBroken, commandAlreadyOpen}
-use Rattle.cache.specs.declared.begin.BeginAnswer.{BeginAnswer}
-use Rattle.cache.specs.declared.begin.BeginAnswer.the-variants.{Done, Refused}
 use Rattle.store.specs.Store.{zeroed}
 
 module _ (s : State) (storeLen c : ℕ) where
@@ -27,11 +26,6 @@ module _ (s : State) (storeLen c : ℕ) where
 
 unfoldable pub beginStore : State → List ℕ → ℕ → List ℕ
 beginStore s store c = cond (accepted (beginSays s (length store) c)) (zeroed store c) store
-
--- what each answer of the code stands for
-abbrev pub beginReply : BeginAnswer → Reply
-beginReply Done = replied []
-beginReply (Refused r) = refused (number r)
 
 -- the call: its answer, the state and the store after it; refused, it leaves the very words
 pub record Begins (words store : List ℕ) (c : ℕ) (r : BeginAnswer) (words′ store′ : List ℕ) : Type 0 where

@@ -8,11 +8,10 @@ use lib.ListN.{length}
 use Rattle.state.specs.Records.{total}
 use Rattle.state.specs.State.{State, recordsOf, closed, withCommand}
 use Rattle.state.specs.Words.{stateOf}
-use Rattle.state.specs.Refusals.{number}
-use Rattle.state.specs.Verdict.{Reply, refused, replied, accepted, Check, verdict}
+use Rattle.state.specs.Verdict.{Reply, replied, accepted, Check, verdict}
+use Rattle.state.specs.declared.answer.EndAnswer.{EndAnswer}
+use Rattle.state.specs.Answers.{endReply}
 use Rattle.state.specs.Checks.{commandTooHigh, storeWrongSize, stateBroken, commandNotOpen}
-use Rattle.cache.specs.declared.end.EndAnswer.{EndAnswer}
-use Rattle.cache.specs.declared.end.EndAnswer.the-variants.{Done, Refused}
 use Rattle.store.specs.Store.{zeroed}
 
 module _ (s : State) (storeLen c : ℕ) where
@@ -28,11 +27,6 @@ module _ (s : State) (storeLen c : ℕ) where
 
 unfoldable pub endStore : State → List ℕ → ℕ → List ℕ
 endStore s store c = cond (accepted (endSays s (length store) c)) (zeroed store c) store
-
--- what each answer of the code stands for
-abbrev pub endReply : EndAnswer → Reply
-endReply (Done records bytes) = replied (records ∷ bytes ∷ [])
-endReply (Refused r) = refused (number r)
 
 -- the call: its answer, the state and the store after it; refused, it leaves the very words
 pub record Ends (words store : List ℕ) (c : ℕ) (r : EndAnswer) (words′ store′ : List ℕ) : Type 0 where

@@ -3,17 +3,14 @@ ghost use mathlib.Core.Path.{_≡_};
 ghost use lib.ListN.{length};
 ghost use Rattle.state.specs.Limits.{stateWords};
 ghost use Rattle.state.specs.Words.{stateOf};
-ghost use Rattle.cache.specs.Begin.{beginSays, beginReply, Begins};
+ghost use Rattle.state.specs.Answers.{beginReply};
+ghost use Rattle.cache.specs.Begin.{beginSays, Begins};
+use state::BeginAnswer;
 use state::CacheState;
 use state::Refusal;
 use store::part;
 use words::command::is_open;
 use words::command::reset;
-
-pub enum BeginAnswer {
-    Done,
-    Refused(Refusal),
-}
 
 fn judge(state: &[u16], store_len: usize, command: usize) -> BeginAnswer
     requires { ⌜ length (now state) ≡ stateWords ⌝ }

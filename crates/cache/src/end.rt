@@ -3,20 +3,16 @@ ghost use mathlib.Core.Path.{_≡_};
 ghost use lib.ListN.{length};
 ghost use Rattle.state.specs.Limits.{stateWords};
 ghost use Rattle.state.specs.Words.{stateOf};
-ghost use Rattle.cache.specs.End.{endSays, endReply, Ends};
+ghost use Rattle.state.specs.Answers.{endReply};
+ghost use Rattle.cache.specs.End.{endSays, Ends};
 use state::CacheState;
+use state::EndAnswer;
 use state::Refusal;
 use store::part;
 use words::command::is_open;
 use words::command::reset;
 use words::entries::held_from;
 use words::entries::used;
-
-pub enum EndAnswer {
-    // how many records and distinct bytes the command had
-    Done { records: usize, bytes: usize },
-    Refused(Refusal),
-}
 
 fn judge(state: &[u16], store_len: usize, command: usize) -> EndAnswer
     requires { ⌜ length (now state) ≡ stateWords ⌝ }

@@ -2,9 +2,9 @@
 ghost use mathlib.Core.Path.{_≡_};
 ghost use lib.ListN.{length};
 ghost use Rattle.cache.specs.HostWrite.{hostSays, hostWindow, writeReply};
-use crate::range;
 use state::CacheState;
 use state::Refusal;
+use state::range;
 
 pub enum WriteAnswer {
     // how many bytes were written

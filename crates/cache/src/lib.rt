@@ -5,5 +5,4 @@ pub mod begin;
 pub mod end;
 pub mod host_write;
 pub mod own_write;
-pub mod range;
 pub mod show;

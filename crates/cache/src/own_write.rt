@@ -6,9 +6,9 @@ ghost use Rattle.state.specs.Words.{stateOf};
 ghost use Rattle.cache.specs.HostWrite.{writeReply};
 ghost use Rattle.cache.specs.OwnWrite.{ownSays, ownWindow};
 use crate::host_write::WriteAnswer;
-use crate::range;
 use state::CacheState;
 use state::Refusal;
+use state::range;
 use words::command::is_open;
 
 fn judge(

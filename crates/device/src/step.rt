@@ -2,19 +2,17 @@
 ghost use mathlib.Core.Path.{_≡_};
 ghost use mathlib.Core.Bool.{cond};
 ghost use Rattle.state.specs.Verdict.{accepted};
-ghost use Rattle.cache.specs.Begin.{beginReply};
-ghost use Rattle.cache.specs.End.{endReply};
+ghost use Rattle.state.specs.Answers.{beginReply, endReply, fetchReply};
 ghost use Rattle.cache.specs.HostWrite.{writeReply};
-ghost use Rattle.fetch.specs.Fetch.{fetchReply};
 ghost use Rattle.log.specs.Line.{answerReply};
 ghost use Rattle.device.specs.Step.{deviceOf, callOf, Makes};
-use cache::begin::BeginAnswer;
-use cache::end::EndAnswer;
 use cache::host_write::WriteAnswer;
-use fetch::FetchAnswer;
 use frames::Step;
 use log::Answer;
+use state::BeginAnswer;
 use state::CacheState;
+use state::EndAnswer;
+use state::FetchAnswer;
 
 // The answer, and how many bytes were delivered to the front of the destination.
 pub(crate) struct Made {

@@ -2,6 +2,7 @@
 // the call says. A journal has no status, since every journal is run.
 mod calls;
 mod frame;
+mod map;
 mod release;
 mod replay;
 
@@ -14,6 +15,10 @@ pub use calls::doorclover_own_write;
 pub use calls::doorclover_show;
 pub use frame::doorclover_frame_read;
 pub use frame::doorclover_frame_write;
+pub use map::doorclover_map_begin;
+pub use map::doorclover_map_end;
+pub use map::doorclover_map_fetch;
+pub use map::doorclover_map_fresh;
 pub use release::doorclover_release;
 pub use replay::Replayed;
 pub use replay::doorclover_journal_replay;

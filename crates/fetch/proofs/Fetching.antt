@@ -24,13 +24,13 @@ use Rattle.state.proofs.Places.{map-read, place-along, counts-fill}
 use Rattle.state.proofs.Cut.{cut-wider}
 use Rattle.state.proofs.Join.{join-judged, join-joined}
 use Rattle.state.proofs.Commands.{Kept, each-holds, kept, command-kept, open-with-own}
-use Rattle.fetch.specs.declared.FetchAnswer.the-variants.{Done, Refused}
+use Rattle.state.specs.declared.answer.FetchAnswer.the-variants.{Done, Refused}
 use Rattle.store.specs.Store.{partStart, location, packed, byteAt, sees}
 use Rattle.store.specs.Hold.{Fits}
 use Rattle.store.proofs.Parts.{own-bytes}
 use Rattle.cache.specs.Fetch.{admitChecks, fetchSays, fetchState, fetchStore, fetchDest}
-use Rattle.fetch.specs.declared.FetchAnswer.{FetchAnswer}
-use Rattle.fetch.specs.Fetch.{fetchReply}
+use Rattle.state.specs.declared.answer.FetchAnswer.{FetchAnswer}
+use Rattle.state.specs.Answers.{fetchReply}
 use Rattle.admission.specs.Plan.{behindOf, bytesOf}
 
 -- what a fetch answers, and what it leaves of state, store and destination

@@ -23,12 +23,13 @@ use Rattle.store.specs.Store.{partStart, packed, from, sees}
 use Rattle.store.specs.Hold.{Fits}
 use Rattle.store.proofs.Parts.{from-zero}
 use Rattle.cache.specs.Fetch.{admitChecks, fetchSays}
-use Rattle.fetch.specs.declared.FetchAnswer.{FetchAnswer}
-use Rattle.fetch.specs.declared.FetchAnswer.the-variants.{Done, Refused}
+use Rattle.state.specs.declared.answer.FetchAnswer.{FetchAnswer}
+use Rattle.state.specs.declared.answer.FetchAnswer.the-variants.{Done, Refused}
 use Rattle.admission.specs.declared.plan.Finding.{Finding}
 use Rattle.admission.specs.declared.plan.Finding.the-variants.{Span, Bytes, Records}
 use Rattle.admission.specs.Plan.{Plan, Plans}
-use Rattle.fetch.specs.Fetch.{fetchReply, Fetches}
+use Rattle.state.specs.Answers.{fetchReply}
+use Rattle.fetch.specs.Fetch.{Fetches}
 use Rattle.fetch.proofs.Fetching.{Leaves, Admits, admits, barred-fetch, none-fetched, fresh-most, over-bytes, over-records, span-fits, place-fits}
 use Rattle.fetch.proofs.Fetching.{span-fetched}
 

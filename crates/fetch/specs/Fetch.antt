@@ -1,20 +1,14 @@
 -- Fetch as the code makes it: its answers, and the call as a whole.
 use Prim.Native.Nat.{ℕ}
 use mathlib.Core.Path.{_≡_}
-use mathlib.Core.List.{List, [], _∷_}
+use mathlib.Core.List.{List}
 use mathlib.Core.Bool.{false}
 use lib.ListN.{length}
 use Rattle.state.specs.Words.{stateOf}
-use Rattle.state.specs.Refusals.{number}
-use Rattle.state.specs.Verdict.{Reply, refused, replied, accepted}
+use Rattle.state.specs.declared.answer.FetchAnswer.{FetchAnswer}
+use Rattle.state.specs.Answers.{fetchReply}
+use Rattle.state.specs.Verdict.{accepted}
 use Rattle.cache.specs.Fetch.{fetchSays, fetchState, fetchStore, fetchDest}
-use Rattle.fetch.specs.declared.FetchAnswer.{FetchAnswer}
-use Rattle.fetch.specs.declared.FetchAnswer.the-variants.{Done, Refused}
-
--- what each answer of the code stands for
-abbrev pub fetchReply : FetchAnswer → Reply
-fetchReply (Done fresh replayed) = replied (fresh ∷ replayed ∷ [])
-fetchReply (Refused r) = refused (number r)
 
 -- the call: its answer, the state, the store and the destination after it; refused, it leaves the very words
 pub record Fetches (words store window dest : List ℕ) (c a n : ℕ) (r : FetchAnswer) (words′ store′ dest′ : List ℕ) : Type 0 where

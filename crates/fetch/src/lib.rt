@@ -15,14 +15,9 @@ use admission::plan::Finding;
 use admission::plan::planned;
 use join::splice::splice;
 use state::CacheState;
+use state::FetchAnswer;
 use state::Refusal;
 use store::part;
-
-pub enum FetchAnswer {
-    // how many bytes of the span were fresh, and how many were replayed
-    Done { fresh: usize, replayed: usize },
-    Refused(Refusal),
-}
 
 // A span of a byte or more: there must be room for what it brings. It is held, and then it lies in one record, side by side. The
 // command's words are lent to be changed only after the verdict.

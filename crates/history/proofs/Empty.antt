@@ -14,11 +14,9 @@ use Rattle.state.proofs.Commands.{kept, command-kept, open-with-own}
 use Rattle.words.proofs.StateWords.{shape-of}
 use Rattle.store.specs.Store.{partStart, byteAt}
 use Rattle.cache.specs.Fetch.{fetchDest}
-use Rattle.cache.specs.HostWrite.{hostWindow}
-use Rattle.cache.specs.OwnWrite.{ownWindow}
 use Rattle.store.proofs.Parts.{own-bytes}
 use Rattle.cache.proofs.Accepted.{Fetched, fetched, fetched-reply}
-use Rattle.cache.specs.Runs.{Call, begin, fetch, end, hostWrite, ownWrite, show, Machine, says, after, destGiven, destAfter, windowGiven, windowAfter}
+use Rattle.cache.specs.Runs.{fetch, Machine, says, after, destAfter}
 use Rattle.history.specs.Claims.{given, Empty, EmptyFetch}
 use Rattle.cache.proofs.Unchanged.{refused-unchanged}
 use Rattle.history.proofs.Effects.{old, packed, fetch-after}

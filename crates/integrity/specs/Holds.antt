@@ -1,17 +1,11 @@
 -- What the parts of the check give.
 use Prim.Native.Nat.{ℕ, suc, _+_, _*_, _≤_}
 use mathlib.Core.Path.{_≡_}
-use mathlib.Core.List.{List}
 use mathlib.Core.Bool.{Bool, _&&_}
-use lib.Dec.{ltb, leb, eqb}
-use Rattle.octets.specs.Lists.{all}
+use lib.Dec.{ltb, leb}
 use Rattle.state.specs.declared.Record.{Record}
 use Rattle.state.specs.Records.{past}
 use Rattle.integrity.specs.declared.Walk.{Walk}
-
--- words that are all zero
-abbrev pub allZero : List ℕ → Bool
-allZero words = all (λ w. eqb w 0) words
 
 -- a number that stands for no fault: its highest bit of 32 is not set
 abbrev pub isFaultless : ℕ → Bool

@@ -3,7 +3,7 @@ use Prim.Native.Nat.{ℕ, suc, _+_, _-_, _≤_, _<_, min}
 use native.Mathlib.Omega.{arith}
 use native.Mathlib.Nat.{zero-add, add-zero}
 use native.Mathlib.Numerals.{add-one}
-use mathlib.Core.Path.{_≡_, ap, ap₂, subst, sym, _∙_}
+use mathlib.Core.Path.{_≡_, refl, ap, ap₂, subst, sym, _∙_}
 use mathlib.Core.List.{List, [], _∷_, _++_, append-nil, append-assoc}
 use lib.ListN.{length, take, drop, getD, set, length-append, length-take, length-drop, take-append-drop, List·getD-append}
 use lib.Seq.{length-take-le, take-at, drop-at, take-add, take-suc, drop-drop, drop-append-le, set-at, paste, paste-suc, getD-take, getD-drop, ext-getD}
@@ -56,6 +56,13 @@ module _ (buffer bytes : List ℕ) (at : ℕ) (fits : at + length bytes ≤ leng
 
   pub overwrite-behind : drop (at + length bytes) (overwrite buffer at bytes) ≡ drop (at + length bytes) buffer
   overwrite-behind = drop-at (take at buffer ++ bytes) (drop (at + length bytes) buffer) (at + length bytes) front-bytes
+
+  -- the bytes stand where they were written
+  pub overwrite-part : part (overwrite buffer at bytes) at (length bytes) ≡ bytes
+  overwrite-part =
+      ap (λ (l : List ℕ). take (length bytes) (drop at l)) (append-assoc (take at buffer) bytes (drop (at + length bytes) buffer))
+      ∙ ap (take (length bytes)) (drop-at (take at buffer) (bytes ++ drop (at + length bytes) buffer) at front)
+      ∙ take-at bytes (drop (at + length bytes) buffer) (length bytes) refl
 
   pub overwrite-inside : (i d : ℕ) → i < length bytes → getD (overwrite buffer at bytes) (at + i) d ≡ getD bytes i d
   overwrite-inside i d h =

@@ -2,6 +2,7 @@
 use Prim.Native.Nat.{ℕ, _+_}
 use mathlib.Core.List.{List, [], _∷_, _++_}
 use mathlib.Core.Bool.{Bool, true, cond, _&&_}
+use lib.Dec.{eqb}
 use lib.ListN.{length, take, drop}
 
 -- The buffer with these bytes in it from a place on. It says what every write leaves: in the store, the window and the destination.
@@ -21,3 +22,7 @@ count test (x ∷ xs) = cond (test x) 1 0 + count test xs
 unfoldable pub all : {A : Type 0} → (A → Bool) → List A → Bool
 all p [] = true
 all p (x ∷ xs) = p x && all p xs
+
+-- are all of them zero?
+abbrev pub allZero : List ℕ → Bool
+allZero numbers = all (λ k. eqb k 0) numbers

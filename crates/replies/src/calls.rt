@@ -1,17 +1,15 @@
 // The replies of the calls.
 use crate::status::OK;
 use crate::status::status;
-use cache::begin::BeginAnswer;
-use cache::end::EndAnswer;
 use cache::host_write::WriteAnswer;
 use cache::show::ShowAnswer;
-use fetch::FetchAnswer;
+use state::BeginAnswer;
+use state::EndAnswer;
+use state::FetchAnswer;
 ghost use mathlib.Core.Path.{_≡_};
-ghost use Rattle.cache.specs.Begin.{beginReply};
-ghost use Rattle.cache.specs.End.{endReply};
+ghost use Rattle.state.specs.Answers.{beginReply, endReply, fetchReply};
 ghost use Rattle.cache.specs.HostWrite.{writeReply};
 ghost use Rattle.cache.specs.Show.{showReply};
-ghost use Rattle.fetch.specs.Fetch.{fetchReply};
 ghost use Rattle.replies.specs.Replies.{begunOf, endedOf, fetchedOf, writtenOf, shownOf};
 
 #[repr(C)]

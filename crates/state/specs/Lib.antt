@@ -6,6 +6,7 @@ pub mod Cut
 pub mod Join
 pub mod Refusals
 pub mod Verdict
+pub mod Answers
 pub mod Checks
 pub mod Runs
 pub mod Claims

@@ -6,8 +6,13 @@ ghost use Rattle.state.specs.Limits.{limits};
 ghost use Rattle.state.specs.State.{freshState};
 ghost use Rattle.state.specs.Words.{stateOf};
 
+mod answer;
+pub mod range;
 mod refusal;
 
+pub use answer::BeginAnswer;
+pub use answer::EndAnswer;
+pub use answer::FetchAnswer;
 pub use refusal::Refusal;
 
 // A run of held addresses. An address is below 65,536 and a record holds at most 4,096 bytes, so 16 bits serve for both.

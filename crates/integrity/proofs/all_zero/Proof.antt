@@ -7,9 +7,8 @@ use mathlib.Core.Bool.{_&&_, and-true}
 use lib.Dec.{eqb}
 use lib.ListN.{length, drop, drop-of-length-le}
 use denote.Ref.{now}
-use Rattle.octets.specs.Lists.{all}
-use Rattle.integrity.specs.Holds.{allZero}
-use Rattle.integrity.proofs.Zero.{one-more}
+use Rattle.octets.specs.Lists.{all, allZero}
+use Rattle.octets.proofs.Zero.{one-more}
 use Rattle.integrity.proofs.all_zero.Statement.{statement}
 use Rattle.integrity.proofs.all_zero.Tie as tie
 

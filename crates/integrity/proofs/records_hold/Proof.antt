@@ -1,19 +1,18 @@
 -- What was found so far and what the records still to come give is what all of them do.
-use Prim.Native.Nat.{ℕ, suc, _+_, _-_, _<_, _≤_}
+use Prim.Native.Nat.{suc, _+_, _-_, _<_, _≤_}
 use native.Mathlib.Omega.{arith}
 use native.Mathlib.Nat.{add-zero, add-assoc}
 use mathlib.Core.Path.{_≡_, refl, ap, sym, subst, _∙_}
 use mathlib.Core.List.{List, []}
-use mathlib.Core.Bool.{Bool, and-true, and-assoc, _&&_}
-use lib.Dec.{ltb, leb}
+use mathlib.Core.Bool.{and-true, and-assoc, _&&_}
+use lib.Dec.{leb}
 use lib.ListN.{length, drop, getD}
 use denote.Ref.{now}
-use borrow.Author.Needs.{needs}
 use borrow.Author.Tests.{lt-leb, le-leb, lt-ltb, le-ltb}
 use Rattle.state.specs.declared.Record.{Record}
 use Rattle.state.specs.Limits.{heldLimit, windowLimit}
 use Rattle.state.specs.Records.{total}
-use Rattle.state.specs.State.{CommandState, noRecord, recordsIn, ascending}
+use Rattle.state.specs.State.{noRecord, recordsIn, ascending}
 use Rattle.state.specs.Words.{commandIn}
 use Rattle.state.proofs.Walk.{at-next, no-record}
 use Rattle.integrity.specs.declared.Walk.{Walk}

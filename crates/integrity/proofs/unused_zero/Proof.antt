@@ -6,7 +6,7 @@ use lib.ListN.{length, drop, length-drop}
 use lib.Seq.{take-all}
 use denote.Ref.{now}
 use borrow.Author.Needs.{needs}
-use Rattle.integrity.specs.Holds.{allZero}
+use Rattle.octets.specs.Lists.{allZero}
 use Rattle.integrity.proofs.Zero.{unused-words}
 use Rattle.integrity.proofs.unused_zero.Statement.{statement}
 use Rattle.integrity.proofs.unused_zero.Tie as tie

@@ -12,8 +12,9 @@ use Rattle.state.specs.Words.{stateOf}
 use Rattle.state.specs.Verdict.{Reply, accepted}
 use Rattle.state.proofs.Verdict.{says-of}
 use Rattle.words.proofs.StateWords.{returned-state}
-use Rattle.cache.specs.declared.begin.BeginAnswer.the-variants.{Done}
-use Rattle.cache.specs.Begin.{beginSays, beginState, beginStore, beginReply}
+use Rattle.state.specs.declared.answer.BeginAnswer.the-variants.{Done}
+use Rattle.state.specs.Answers.{beginReply}
+use Rattle.cache.specs.Begin.{beginSays, beginState, beginStore}
 use Rattle.cache.proofs.Accepted.{Ready, begun}
 use Rattle.cache.proofs.begin.begin_words.Statement.{statement}
 use Rattle.cache.proofs.begin.begin_words.Tie as tie

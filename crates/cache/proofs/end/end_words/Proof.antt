@@ -12,7 +12,8 @@ use Rattle.state.specs.Words.{stateOf}
 use Rattle.state.specs.Verdict.{Reply, accepted}
 use Rattle.state.proofs.Verdict.{says-of}
 use Rattle.words.proofs.StateWords.{returned-state}
-use Rattle.cache.specs.End.{endSays, endState, endStore, endReply}
+use Rattle.state.specs.Answers.{endReply}
+use Rattle.cache.specs.End.{endSays, endState, endStore}
 use Rattle.cache.proofs.Accepted.{Ready, ended}
 use Rattle.cache.proofs.end.end_words.Statement.{statement}
 use Rattle.cache.proofs.end.end_words.Tie as tie

@@ -1,7 +1,7 @@
 -- Case by case.
 use mathlib.Core.Path.{ap, sym}
 use borrow.Author.Needs.{needs}
-use Rattle.cache.specs.Begin.{beginReply}
+use Rattle.state.specs.Answers.{beginReply}
 use Rattle.device.proofs.step.begun.Statement.{statement}
 use Rattle.device.proofs.step.begun.Tie as tie
 

@@ -2,8 +2,8 @@
 use mathlib.Core.Path.{ap, sym}
 use mathlib.Core.Bool.{cond}
 use Rattle.state.specs.Verdict.{accepted}
-use Rattle.fetch.specs.declared.FetchAnswer.{FetchAnswer}
-use Rattle.fetch.specs.Fetch.{fetchReply}
+use Rattle.state.specs.declared.answer.FetchAnswer.{FetchAnswer}
+use Rattle.state.specs.Answers.{fetchReply}
 use borrow.Author.Needs.{needs}
 use Rattle.device.proofs.step.delivered.Statement.{statement}
 use Rattle.device.proofs.step.delivered.Tie as tie

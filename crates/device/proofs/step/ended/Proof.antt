@@ -1,7 +1,7 @@
 -- Case by case.
 use mathlib.Core.Path.{ap, sym}
 use borrow.Author.Needs.{needs}
-use Rattle.cache.specs.End.{endReply}
+use Rattle.state.specs.Answers.{endReply}
 use Rattle.device.proofs.step.ended.Statement.{statement}
 use Rattle.device.proofs.step.ended.Tie as tie
 

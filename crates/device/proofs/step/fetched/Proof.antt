@@ -1,7 +1,7 @@
 -- Case by case.
 use mathlib.Core.Path.{ap, sym}
 use borrow.Author.Needs.{needs}
-use Rattle.fetch.specs.Fetch.{fetchReply}
+use Rattle.state.specs.Answers.{fetchReply}
 use Rattle.device.proofs.step.fetched.Statement.{statement}
 use Rattle.device.proofs.step.fetched.Tie as tie
 

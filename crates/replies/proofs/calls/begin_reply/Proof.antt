@@ -3,8 +3,8 @@ use Prim.Native.Nat.{ℕ}
 use mathlib.Core.Path.{ap, sym, _∙_}
 use borrow.Author.Needs.{needs}
 use Rattle.state.specs.Verdict.{refused}
-use Rattle.cache.specs.declared.begin.BeginAnswer.{BeginAnswer}
-use Rattle.cache.specs.Begin.{beginReply}
+use Rattle.state.specs.declared.answer.BeginAnswer.{BeginAnswer}
+use Rattle.state.specs.Answers.{beginReply}
 use Rattle.replies.specs.Replies.{begunOf}
 use Rattle.replies.proofs.calls.begin_reply.Statement.{statement}
 use Rattle.replies.proofs.calls.begin_reply.Tie as tie

@@ -3,8 +3,8 @@ use Prim.Native.Nat.{ℕ}
 use mathlib.Core.Path.{ap, sym, _∙_}
 use borrow.Author.Needs.{needs}
 use Rattle.state.specs.Verdict.{refused}
-use Rattle.cache.specs.declared.end.EndAnswer.{EndAnswer}
-use Rattle.cache.specs.End.{endReply}
+use Rattle.state.specs.declared.answer.EndAnswer.{EndAnswer}
+use Rattle.state.specs.Answers.{endReply}
 use Rattle.replies.specs.Replies.{endedOf}
 use Rattle.replies.proofs.calls.end_reply.Statement.{statement}
 use Rattle.replies.proofs.calls.end_reply.Tie as tie

@@ -3,8 +3,8 @@ use Prim.Native.Nat.{ℕ}
 use mathlib.Core.Path.{ap, sym, _∙_}
 use borrow.Author.Needs.{needs}
 use Rattle.state.specs.Verdict.{refused}
-use Rattle.fetch.specs.declared.FetchAnswer.{FetchAnswer}
-use Rattle.fetch.specs.Fetch.{fetchReply}
+use Rattle.state.specs.declared.answer.FetchAnswer.{FetchAnswer}
+use Rattle.state.specs.Answers.{fetchReply}
 use Rattle.replies.specs.Replies.{fetchedOf}
 use Rattle.replies.proofs.calls.fetch_reply.Statement.{statement}
 use Rattle.replies.proofs.calls.fetch_reply.Tie as tie

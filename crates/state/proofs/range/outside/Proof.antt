@@ -3,9 +3,9 @@ use Prim.Native.Nat.{suc, _+_, _-_}
 use native.Mathlib.Omega.{arith}
 use mathlib.Core.Path.{sym}
 use borrow.Author.Tests.{lt-ltb}
 use Rattle.state.proofs.Cases.{leb-same}
-use Rattle.cache.proofs.range.outside.Statement.{statement}
-use Rattle.cache.proofs.range.outside.Tie as tie
+use Rattle.state.proofs.range.outside.Statement.{statement}
+use Rattle.state.proofs.range.outside.Tie as tie
 
 returns : tie.Need-returns
 returns c = sym (lt-ltb (c .before .args .window-len) (c .before .args .address + c .before .args .size) (omega arith))

@@ -1,0 +1,96 @@
+-- Laws of tests over the addresses of a span: counts, runs, and what becomes of both if no address from a bound on passes.
+use Prim.Native.Nat.{ℕ, zero, suc, _+_, _-_, _≤_, _<_}
+use native.Mathlib.Omega.{arith}
+use native.Mathlib.Nat.{zero-add, suc-add}
+use mathlib.Core.Path.{_≡_, refl, ap, subst, sym, _∙_}
+use mathlib.Core.List.{List, [], _∷_, map, append-nil}
+use mathlib.Core.Bool.{Bool, true, false, cond, not, _&&_}
+use lib.Dec.{leb, ltb}
+use lib.ListN.{length, getD, length-map}
+use borrow.Author.Tests.{leb-true, leb-false, ltb-true, ltb-false}
+use Rattle.octets.specs.Lists.{count, all, overwrite}
+use Rattle.octets.proofs.Overwrite.{overwrite-inside, overwrite-below, overwrite-above}
+use Rattle.state.specs.Records.{inSpan, span}
+use Rattle.state.specs.Runs.{runsFrom}
+use Rattle.state.proofs.Places.{length-span, span-at}
+use Rattle.bits.proofs.Counts.{count-split, count-none}
+
+-- a test that every element passes
+pub all-pass : {A : Type 0} (test : A → Bool) (xs : List A) → ((x : A) → test x ≡ true) → all test xs ≡ true
+unfolding all
+all-pass test [] h = refl
+all-pass test (x ∷ xs) h = rw (h x) (all-pass test xs h)
+
+-- Counts
+
+-- an element passes or it does not
+count-both : (test : ℕ → Bool) (xs : List ℕ) → count test xs + count (λ x. not (test x)) xs ≡ length xs
+unfolding count
+count-both test [] = refl
+count-both test (x ∷ xs) = go (test x) (count test xs) (count (λ y. not (test y)) xs) (count-both test xs)
+  where
+    go : (b : Bool) (k l : ℕ) → k + l ≡ length xs → cond b 1 0 + k + (cond (not b) 1 0 + l) ≡ suc (length xs)
+    go true k l e = omega arith
+    go false k l e = omega arith
+
+-- a span within another: as many of it pass at most
+count-within : (test : ℕ → Bool) (a n k : ℕ) → a + n ≤ k → count test (span a n) ≤ count test (span 0 k)
+count-within test a n k fits =
+    let rest = k - (a + n) in
+    let whole : a + n + rest ≡ k = omega arith in
+    omega (
+      arith,
+      ap (λ (l : ℕ). count test (span 0 l)) whole,
+      count-split test 0 (a + n) rest,
+      count-split test 0 a n,
+      ap (λ (x : ℕ). count test (span x n)) (zero-add a),
+    )
+
+-- those that pass among the first k addresses and those of a span within them that do not are no more than k
+pub count-room : (test : ℕ → Bool) (a n k : ℕ) → a + n ≤ k → count test (span 0 k) + count (λ x. not (test x)) (span a n) ≤ k
+count-room test a n k fits = omega (arith, count-within (λ x. not (test x)) a n k fits, count-both test (span 0 k), length-span 0 k)
+
+-- From a bound on no address passes.
+
+module _ (test : ℕ → Bool) where
+  pub runs-none : (x n : ℕ) → ((y : ℕ) → x ≤ y → test y ≡ false) → runsFrom test x n ≡ []
+  unfolding runsFrom
+  runs-none x zero h = refl
+  runs-none x (suc n) h = rw (h x (omega arith)) (runs-none (suc x) n (λ y k. h y (omega arith)))
+
+  -- the first k addresses have them all
+  pub count-low : (x k more : ℕ) → ((y : ℕ) → x + k ≤ y → test y ≡ false) → count test (span x (k + more)) ≡ count test (span x k)
+  count-low x k more h = omega (arith, count-split test x k more, count-none test (x + k) more (λ y low high. h y low))
+
+  pub runs-low : (x k more : ℕ) → ((y : ℕ) → x + k ≤ y → test y ≡ false) → runsFrom test x (k + more) ≡ runsFrom test x k
+  unfolding runsFrom
+  runs-low x zero more h = rw zero-add (runs-none x more (λ y l. h y (omega arith)))
+  runs-low x (suc k) more h = rw (suc-add, runs-low (suc x) k more (λ y l. h y (omega arith)))
+
+-- Bytes of a span
+
+-- where the bytes of a span stand at their addresses, each of its addresses has its byte and every other what it had
+pub overwrite-span :
+    (buffer : List ℕ) (f : ℕ → ℕ) (a n : ℕ) → a + n ≤ length buffer → (x : ℕ)
+    → getD (overwrite buffer a (map f (span a n))) x 0 ≡ cond (inSpan a n x) (f x) (getD buffer x 0)
+overwrite-span buffer f a n fits x = go (leb a x) refl (ltb x (a + n)) refl
+  where
+    size : length (map f (span a n)) ≡ n
+    size = length-map (span a n) f ∙ length-span a n
+
+    each : (i : ℕ) → i < n → getD (map f (span a n)) i 0 ≡ f (a + i)
+    each i h = ap (λ (xs : List ℕ). getD (map f xs) i 0) (sym (append-nil (span a n))) ∙ span-at f 0 a n [] i h
+
+    room : a + length (map f (span a n)) ≤ length buffer
+    room = omega (arith, size)
+
+    go : (p : Bool) → leb a x ≡ p → (q : Bool) → ltb x (a + n) ≡ q
+        → getD (overwrite buffer a (map f (span a n))) x 0 ≡ cond (p && q) (f x) (getD buffer x 0)
+    go true h true k =
+        let i = x - a in
+        let near : i < n = omega (arith, leb-true, ltb-true) in
+        let at : a + i ≡ x = omega (arith, leb-true) in
+        subst (λ (y : ℕ). getD (overwrite buffer a (map f (span a n))) y 0 ≡ f y) at
+        (overwrite-inside buffer (map f (span a n)) a room i 0 (omega (arith, size)) ∙ each i near)
+    go true h false k = overwrite-above buffer (map f (span a n)) a room x 0 (omega (arith, size, ltb-false))
+    go false h q k = overwrite-below buffer (map f (span a n)) a room x 0 (omega (arith, leb-false))

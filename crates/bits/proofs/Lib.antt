@@ -1,0 +1,6 @@
+pub mod Word
+pub mod Operations
+pub mod Counts
+pub mod Words
+pub mod Starts
+pub mod Spans

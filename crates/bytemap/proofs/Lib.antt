@@ -1,0 +1,5 @@
+pub mod Taking
+pub mod Cleaning
+pub mod Counting
+pub mod Accepted
+pub mod Claims

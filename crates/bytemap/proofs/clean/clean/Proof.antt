@@ -1,0 +1,78 @@
+-- The loop's invariant: the values of the first i words are clean.
+use Prim.Native.Nat.{ℕ, _*_, _-_, _≤_}
+use native.Mathlib.Omega.{arith}
+use mathlib.Core.Path.{_≡_, ap, sym, _∙_}
+use mathlib.Core.List.{List}
+use mathlib.Core.Bool.{true}
+use lib.ListN.{length-take, length-drop}
+use denote.Ref.{now}
+use borrow.Author.Tests.{not-true, not-false}
+use Rattle.bits.specs.Bits.{isSet, mapLimit}
+use Rattle.bytemap.specs.Values.{clean}
+use Rattle.bytemap.proofs.Cleaning.{clean-start, clean-lent, clean-on, clean-off}
+use Rattle.bytemap.proofs.clean.clean.Statement.{statement}
+use Rattle.bytemap.proofs.clean.clean.Tie as tie
+
+abbrev Inv-loop : tie.InvT-loop
+Inv-loop words values i₀ i = (i ≤ 64) × (clean (isSet words) values 0 (64 * i) ≡ true)
+
+abbrev μ-loop : tie.MeasureT-loop
+μ-loop words values i₀ i = 64 - i
+
+loop-holds : tie.Need-loop-holds Inv-loop μ-loop
+loop-holds c = let a = c .before .before .args in (omega arith, clean-start (isSet (now (a .words))) (now (a .values)))
+
+-- the call on a word's values tells of the map's
+module _ (c : tie.After-clean-word Inv-loop μ-loop) where
+  abbrev at : ℕ
+  at = c .before .before .before .before .loop .i
+
+  abbrev words : List ℕ
+  words = now (c .before .before .before .before .before .before .before .args .words)
+
+  abbrev values : List ℕ
+  values = now (c .before .before .before .before .before .before .before .args .values)
+
+  tells : c .clean-word .result ≡ clean (isSet words) values (64 * at) 64
+  tells = c .clean-word .ensures ∙ clean-lent words values at
+
+clean-word-requires : tie.Need-clean-word-requires Inv-loop μ-loop
+clean-word-requires c κs = simp (length-take, length-drop) (omega arith)
+
+returns : tie.Need-returns Inv-loop μ-loop
+returns c =
+    let w = c .before in
+    sym (clean-off (words w) (values w) (at w) mapLimit (omega arith) (sym (tells w) ∙ not-true _ (c .if1 .taken)))
+
+loop-again : tie.Need-loop-again Inv-loop μ-loop
+loop-again c =
+    let w = c .before in
+    (omega arith, clean-on (words w) (values w) (at w) (w .before .before .before .before .loop .inv .1) (sym (tells w) ∙ not-false _ (c .if1 .left)))
+
+returns-2 : tie.Need-returns-2 Inv-loop μ-loop
+returns-2 c =
+    let l = c .before in
+    let a = l .before .before .before .args in
+    let all : 64 * l .loop .i ≡ mapLimit = omega arith in
+    sym (ap (clean (isSet (now (a .words))) (now (a .values)) 0) (sym all) ∙ l .loop .inv .1)
+
+pub clean-spec : {M : Type 1} → statement M
+clean-spec =
+    tie.close
+    (tie.spec
+    Inv-loop
+    μ-loop
+    loop-holds
+    (λ c. omega arith)
+    (λ c. omega arith)
+    (λ c. omega arith)
+    (λ c. omega arith)
+    (λ c. omega arith)
+    (λ c. omega arith)
+    (λ c. omega arith)
+    clean-word-requires
+    returns
+    (λ c. omega arith)
+    (λ c. omega arith)
+    loop-again
+    returns-2)

@@ -1,0 +1,70 @@
+-- Refused, map and destination are as they were. Accepted, the span is delivered and held.
+use mathlib.Core.Path.{_≡_, ap, ap₂, sym}
+use mathlib.Core.Bool.{true, false}
+use lib.ListN.{length}
+use denote.Ref.{now}
+use borrow.Author.Needs.{needs}
+use Rattle.state.specs.Answers.{fetchReply}
+use Rattle.state.specs.Verdict.{Reply, accepted}
+use Rattle.state.proofs.Verdict.{says-of}
+use Rattle.bytemap.specs.Map.{Map, mapOf}
+use Rattle.bytemap.specs.Fetch.{fetchSays, fetchMap, fetchDest}
+use Rattle.bytemap.specs.Values.{Fits}
+use Rattle.bytemap.proofs.Accepted.{fetched}
+use Rattle.bytemap.proofs.fetch.fetch_words.Statement.{statement}
+use Rattle.bytemap.proofs.fetch.fetch_words.Tie as tie
+
+module _ (s : tie.Start) where
+  abbrev lent : Map
+  lent = mapOf (s .args .flag) (now (s .args .words)) (now (s .args .values))
+
+  abbrev said : Reply
+  said = fetchSays lent (length (now (s .args .window))) (length (now (s .args .destination))) (s .args .address) (s .args .size)
+
+-- an answer that is no refusal: the span fits
+module _ (e : tie.After-known-told2) where
+  abbrev start : tie.Start
+  start = e .before .before .before .before .before .before .before .before .before .before
+
+  yes : accepted (said start) ≡ true
+  unfolding accepted
+  yes = ap accepted (says-of fetchReply (e .before .before .before .judge .ensures) (e .before .answer2 .given .1))
+
+  fits : let a = start .args in
+      Fits (length (now (a .words))) (length (now (a .values))) (length (now (a .window))) (length (now (a .destination))) (a .address) (a .size)
+  fits = fetched (lent start) _ _ _ _ (start .pre .0) (start .pre .1) yes
+
+returns : tie.Need-returns
+unfolding accepted fetchMap fetchDest
+returns c =
+    let s = c .before .before .before .before .before .before .before .before .before .before in
+    let says = says-of fetchReply (c .before .before .before .judge .ensures) (c .before .answer .given .1) in
+    let no : accepted (said s) ≡ false = ap accepted says in
+    record { answer = sym says; map = rw no; delivered = rw no }
+
+returns-2 : tie.Need-returns-2
+unfolding fetchMap fetchDest
+returns-2 c =
+    let done = c .before .before .before .before .before .before .deliver in
+    let e = c .before .before .before .before .before .before .before .before .before .before in
+    record {
+      answer = sym (says-of fetchReply (e .before .before .before .judge .ensures) (e .before .answer2 .given .1));
+      map = rw (yes e) (ap₂ (mapOf (start e .args .flag)) (done .ensures .bits) (done .ensures .held));
+      delivered = rw (yes e) (done .ensures .delivered);
+    }
+
+pub fetch-words-spec : {M : Type 1} → statement M
+fetch-words-spec =
+    tie.close
+    (tie.spec
+    (λ c κs. search needs)
+    (λ c. search needs)
+    (λ c. search needs)
+    (λ c κs. fits (c .before .before .before))
+    (λ c. search needs)
+    (λ c. search needs)
+    returns
+    (λ c. search needs)
+    (λ c. search needs)
+    (λ c. search needs)
+    returns-2)

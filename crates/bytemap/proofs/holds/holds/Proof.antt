@@ -1,0 +1,31 @@
+-- The three rules in their order: the first that is broken decides.
+use mathlib.Core.Path.{sym, _∙_}
+use borrow.Author.Needs.{needs}
+use borrow.Author.Tests.{not-true, not-false}
+use Rattle.bytemap.specs.Map.{holds}
+use Rattle.bytemap.proofs.holds.holds.Statement.{statement}
+use Rattle.bytemap.proofs.holds.holds.Tie as tie
+
+returns : tie.Need-returns
+unfolding holds
+returns c = rw (sym (c .before .open-or-empty .ensures) ∙ not-true _ (c .if1 .taken))
+
+returns-2 : tie.Need-returns-2
+unfolding holds
+returns-2 c =
+    let whole = c .before .before in
+    rw (sym (whole .before .open-or-empty .ensures) ∙ not-false _ (whole .if1 .left), sym (c .before .clean .ensures) ∙ not-true _ (c .if2 .taken))
+
+returns-3 : tie.Need-returns-3
+unfolding holds
+returns-3 c =
+    let neat = c .before in
+    let whole = neat .before .before in
+    rw (
+      sym (whole .before .open-or-empty .ensures) ∙ not-false _ (whole .if1 .left),
+      sym (neat .before .clean .ensures) ∙ not-false _ (neat .if2 .left),
+      c .runs .ensures,
+    )
+
+pub holds-spec : {M : Type 1} → statement M
+holds-spec = tie.close (tie.spec (λ c κs. search needs) returns (λ c κs. search needs) returns-2 (λ c κs. search needs) returns-3)

@@ -1,0 +1,33 @@
+// Whether a map holds together.
+ghost use mathlib.Core.Path.{_≡_};
+ghost use mathlib.Core.Bool.{_||_};
+ghost use lib.Dec.{ltb};
+ghost use lib.ListN.{length};
+ghost use Rattle.octets.specs.Lists.{allZero};
+ghost use Rattle.bits.specs.Bits.{wordLimit, mapLimit};
+ghost use Rattle.bytemap.specs.Map.{mapOf, holds};
+use crate::clean::clean;
+use state::CacheState;
+
+// Whether the command is open, or no bit is set.
+fn open_or_empty(flag: u64, words: &[u64]) -> bool
+    ensures { λ r. ⌜ r ≡ (ltb 0 flag || allZero (now (words .entry))) ⌝ }
+{
+    if flag != 0 {
+        return true;
+    }
+    bits::all_zero(words)
+}
+
+pub(crate) fn holds(flag: u64, words: &[u64], values: &[u8]) -> bool
+    requires { ⌜ (length (now words) ≡ wordLimit) × (length (now values) ≡ mapLimit) ⌝ }
+    ensures { λ r. ⌜ r ≡ holds (mapOf flag (now (words .entry)) (now (values .entry))) ⌝ }
+{
+    if !open_or_empty(flag, words) {
+        return false;
+    }
+    if !clean(words, values) {
+        return false;
+    }
+    bits::runs(words) <= CacheState::RECORDS
+}

@@ -1,0 +1,22 @@
+-- What each answer of the code stands for: the number of a refusal, or the numbers of the reply.
+use mathlib.Core.List.{[], _∷_}
+use Rattle.state.specs.declared.answer.BeginAnswer.{BeginAnswer}
+use Rattle.state.specs.declared.answer.BeginAnswer.the-variants as begin
+use Rattle.state.specs.declared.answer.FetchAnswer.{FetchAnswer}
+use Rattle.state.specs.declared.answer.FetchAnswer.the-variants as fetch
+use Rattle.state.specs.declared.answer.EndAnswer.{EndAnswer}
+use Rattle.state.specs.declared.answer.EndAnswer.the-variants as end
+use Rattle.state.specs.Refusals.{number}
+use Rattle.state.specs.Verdict.{Reply, refused, replied}
+
+abbrev pub beginReply : BeginAnswer → Reply
+beginReply begin.Done = replied []
+beginReply (begin.Refused r) = refused (number r)
+
+abbrev pub fetchReply : FetchAnswer → Reply
+fetchReply (fetch.Done fresh replayed) = replied (fresh ∷ replayed ∷ [])
+fetchReply (fetch.Refused r) = refused (number r)
+
+abbrev pub endReply : EndAnswer → Reply
+endReply (end.Done records bytes) = replied (records ∷ bytes ∷ [])
+endReply (end.Refused r) = refused (number r)
