@@ -29,16 +29,19 @@ impl<const CHECKED: bool> ByteMap<CHECKED> {
         }
     }
 
-    /// Refuses a map that does not hold together.
-    fn check(&self) -> Result<(), u8> {
-        refuse(20, CHECKED && !self.holds_together())
-    }
-
-    fn holds_together(&self) -> bool {
+    /// Refuses a map that does not hold together; answers the number of runs if
+    /// they have been counted for it.
+    fn check(&self) -> Result<Option<usize>, u8> {
+        if !CHECKED {
+            return Ok(None);
+        }
         let held = self.words.iter().fold(0, |bits, word| bits | word);
-        (self.open != 0 || held == 0)
-            && idle_values(&self.words, &self.values) == [0; 8]
-            && runs(&self.words) <= RECORDS
+        let runs = runs(&self.words);
+        let sound = (self.open != 0 || held == 0)
+            && runs <= RECORDS
+            && idle_values(&self.words, &self.values) == [0; 8];
+        refuse(20, !sound)?;
+        Ok(Some(runs))
     }
 
     fn clear(&mut self, open: u64) {
@@ -58,10 +61,10 @@ impl<const CHECKED: bool> ByteMap<CHECKED> {
     /// Replies how many runs and held bytes there were.
     #[inline(never)]
     pub fn end(&mut self) -> Result<Counts, u8> {
-        self.check()?;
+        let runs = self.check()?;
         refuse(21, self.open == 0)?;
         let held: u32 = self.words.iter().map(|word| word.count_ones()).sum();
-        let counts = (runs(&self.words), held as usize);
+        let counts = (self.runs(runs), held as usize);
         self.clear(0);
         Ok(counts)
     }
@@ -79,18 +82,30 @@ impl<const CHECKED: bool> ByteMap<CHECKED> {
         refuse(30, window.len() > ADDRESSES)?;
         refuse(9, outside(window, address, length))?;
         refuse(10, destination.len() < length)?;
-        self.check()?;
+        let runs = self.check()?;
         refuse(21, self.open == 0)?;
         if length == 0 {
             return Ok((0, 0));
         }
-        let fresh = self.hold(window, address, address + length)?;
+        let fresh = self.hold(window, address, address + length, runs)?;
         destination[..length].copy_from_slice(&self.values[address..][..length]);
         Ok((fresh, length - fresh))
     }
 
-    /// Holds one address or more, and answers how many of them are fresh.
-    fn hold(&mut self, window: &[u8], from: usize, to: usize) -> Result<usize, u8> {
+    /// The number of runs, if it has not been counted already.
+    fn runs(&self, counted: Option<usize>) -> usize {
+        counted.unwrap_or_else(|| runs(&self.words))
+    }
+
+    /// Holds one address or more, and answers how many of them are fresh. The
+    /// number of runs may be known.
+    fn hold(
+        &mut self,
+        window: &[u8],
+        from: usize,
+        to: usize,
+        runs: Option<usize>,
+    ) -> Result<usize, u8> {
         let held: u32 = masks(from, to)
             .map(|(place, mask)| (self.words[place] & mask).count_ones())
             .sum();
@@ -98,16 +113,36 @@ impl<const CHECKED: bool> ByteMap<CHECKED> {
         if fresh == 0 {
             return Ok(0);
         }
-        let mut words = self.words;
-        masks(from, to).for_each(|(place, mask)| words[place] |= mask);
-        refuse(24, runs(&words) > RECORDS)?;
+        let met = if held == 0 {
+            usize::from(self.is_held(to))
+        } else {
+            self.starts(from, to)
+        };
+        let added = usize::from(from == 0 || !self.is_held(from - 1));
+        refuse(24, self.runs(runs) - met + added > RECORDS)?;
         if held == 0 {
             self.values[from..to].copy_from_slice(&window[from..to]);
         } else {
             self.fill_gaps(window, from, to);
         }
-        self.words = words;
+        masks(from, to).for_each(|(place, mask)| self.words[place] |= mask);
         Ok(fresh)
+    }
+
+    /// Whether an address is held; the one behind the last is not.
+    fn is_held(&self, address: usize) -> bool {
+        let word = self.words.get(address / BITS);
+        word.is_some_and(|word| word >> (address % BITS) & 1 == 1)
+    }
+
+    /// How many runs start at the addresses from one up to another, both included.
+    /// They become one with all that is between.
+    fn starts(&self, from: usize, to: usize) -> usize {
+        let starts = masks(from, ADDRESSES.min(to + 1)).map(|(place, mask)| {
+            let before = if place == 0 { 0 } else { self.words[place - 1] };
+            (starts(before, self.words[place]) & mask).count_ones()
+        });
+        starts.sum::<u32>() as usize
     }
 
     /// Takes the values of addresses that are not held from the window, gap by
@@ -139,15 +174,19 @@ fn masks(from: usize, to: usize) -> impl Iterator<Item = (usize, u64)> {
     })
 }
 
-/// How many runs of ones there are: ones behind a zero, or behind nothing.
+/// How many runs of ones there are.
 fn runs(words: &[u64; WORDS]) -> usize {
-    let mut before = 0;
-    let mut starts = 0;
+    let (mut before, mut runs) = (0, 0);
     for word in words {
-        starts += (word & !(word << 1 | before)).count_ones();
-        before = word >> (BITS - 1);
+        runs += starts(before, *word).count_ones();
+        before = *word;
     }
-    starts as usize
+    runs as usize
+}
+
+/// The ones of a word that stand behind a zero, in it or in the word before.
+fn starts(before: u64, word: u64) -> u64 {
+    word & !(word << 1 | before >> (BITS - 1))
 }
 
 /// The values of all addresses whose bit is not set, one over the other, in eight
