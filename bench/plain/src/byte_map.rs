@@ -98,7 +98,8 @@ impl<const CHECKED: bool> ByteMap<CHECKED> {
     }
 
     /// Holds one address or more, and answers how many of them are fresh. The
-    /// number of runs may be known.
+    /// number of runs may be known; there is one more only where the span neither
+    /// shares an address with a run nor touches one.
     fn hold(
         &mut self,
         window: &[u8],
@@ -113,14 +114,9 @@ impl<const CHECKED: bool> ByteMap<CHECKED> {
         if fresh == 0 {
             return Ok(0);
         }
-        let met = if held == 0 {
-            usize::from(self.is_held(to))
-        } else {
-            self.starts(from, to)
-        };
-        let added = usize::from(from == 0 || !self.is_held(from - 1));
-        refuse(24, self.runs(runs) - met + added > RECORDS)?;
         if held == 0 {
+            let touches = self.is_held(to) || from > 0 && self.is_held(from - 1);
+            refuse(24, !touches && self.runs(runs) >= RECORDS)?;
             self.values[from..to].copy_from_slice(&window[from..to]);
         } else {
             self.fill_gaps(window, from, to);
@@ -133,16 +129,6 @@ impl<const CHECKED: bool> ByteMap<CHECKED> {
     fn is_held(&self, address: usize) -> bool {
         let word = self.words.get(address / BITS);
         word.is_some_and(|word| word >> (address % BITS) & 1 == 1)
-    }
-
-    /// How many runs start at the addresses from one up to another, both included.
-    /// They become one with all that is between.
-    fn starts(&self, from: usize, to: usize) -> usize {
-        let starts = masks(from, ADDRESSES.min(to + 1)).map(|(place, mask)| {
-            let before = if place == 0 { 0 } else { self.words[place - 1] };
-            (starts(before, self.words[place]) & mask).count_ones()
-        });
-        starts.sum::<u32>() as usize
     }
 
     /// Takes the values of addresses that are not held from the window, gap by
@@ -174,19 +160,14 @@ fn masks(from: usize, to: usize) -> impl Iterator<Item = (usize, u64)> {
     })
 }
 
-/// How many runs of ones there are.
+/// How many runs of ones there are: ones behind a zero, or behind nothing.
 fn runs(words: &[u64; WORDS]) -> usize {
-    let (mut before, mut runs) = (0, 0);
+    let (mut before, mut starts) = (0, 0);
     for word in words {
-        runs += starts(before, *word).count_ones();
+        starts += (word & !(word << 1 | before >> (BITS - 1))).count_ones();
         before = *word;
     }
-    runs as usize
-}
-
-/// The ones of a word that stand behind a zero, in it or in the word before.
-fn starts(before: u64, word: u64) -> u64 {
-    word & !(word << 1 | before >> (BITS - 1))
+    starts as usize
 }
 
 /// The values of all addresses whose bit is not set, one over the other, in eight
