@@ -16,7 +16,7 @@ pub fn tally(w: u64) -> usize
 }
 
 // The bits below a place, or all of them.
-pub fn first_bits(n: usize) -> u64
+fn first_bits(n: usize) -> u64
     ensures { λ r. ⌜ r ≡ wordOf (λ j. ltb j n) 64 ⌝ }
 {
     if n < 64 {

@@ -6,7 +6,6 @@ mod walk;
 
 pub use count::count_span;
 pub use count::ones;
-pub use each::first_bits;
 pub use fill::all_zero;
 pub use fill::clear;
 pub use fill::set_span;

@@ -71,29 +71,33 @@ clean-next held values or i before =
     go true = refl
     go false = sym (and-true (eqb (getD values i 0) 0))
 
--- the values of one word of the map, lent as a part of all
-pub clean-lent : (words values : List ℕ) (i : ℕ)
-    → clean (bit (getD words i 0)) (take (64 * i + 64 - 64 * i) (drop (64 * i) values)) 0 64 ≡ clean (isSet words) values (64 * i) 64
-clean-lent words values i =
-    clean-moved (bit (getD words i 0)) (isSet words) (take (64 * i + 64 - 64 * i) (drop (64 * i) values)) values 0 (64 * i) 64
-    (λ j h.
-    let word : (64 * i + j) / 64 ≡ i = omega arith in
-    let place : (64 * i + j) % 64 ≡ j = omega arith in (
-      ap (bit (getD words i 0)) (zero-add j) ∙ sym (ap₂ (λ (w k : ℕ). bit (getD words w 0) k) word place),
-      ap (λ (k : ℕ). getD (take (64 * i + 64 - 64 * i) (drop (64 * i) values)) k 0) (zero-add j)
-          ∙ getD-take (64 * i + 64 - 64 * i) (drop (64 * i) values) j 0 (omega arith) ∙ getD-drop (64 * i) values j 0,
+-- values lent as a part of all
+pub clean-lent : (f g : ℕ → Bool) (values : List ℕ) (x k : ℕ) → ((j : ℕ) → j < k → f j ≡ g (x + j))
+    → clean f (take (x + k - x) (drop x values)) 0 k ≡ clean g values x k
+clean-lent f g values x k same =
+    let lent = take (x + k - x) (drop x values) in
+    clean-moved f g lent values 0 x k
+    (λ j h. (
+      ap f (zero-add j) ∙ same j h,
+      ap (λ (i : ℕ). getD lent i 0) (zero-add j) ∙ getD-take (x + k - x) (drop x values) j 0 (omega arith) ∙ getD-drop x values j 0,
     ))
 
--- word after word: one more that is clean, and one that is not
-pub clean-on : (words values : List ℕ) (i : ℕ) → clean (isSet words) values 0 (64 * i) ≡ true → clean (isSet words) values (64 * i) 64 ≡ true
-    → clean (isSet words) values 0 (64 * (i + 1)) ≡ true
-clean-on words values i before here =
-    ap (clean (isSet words) values 0) (omega arith) ∙ clean-parts (isSet words) values 0 (64 * i) 64
-    ∙ rw (before, zero-add (64 * i)) here
+-- the values of one word of the map
+pub clean-word-lent : (words values : List ℕ) (i : ℕ)
+    → clean (bit (getD words i 0)) (take (64 * i + 64 - 64 * i) (drop (64 * i) values)) 0 64 ≡ clean (isSet words) values (64 * i) 64
+clean-word-lent words values i =
+    clean-lent (bit (getD words i 0)) (isSet words) values (64 * i) 64
+    (λ j h.
+    let word : (64 * i + j) / 64 ≡ i = omega arith in
+    let place : (64 * i + j) % 64 ≡ j = omega arith in
+    sym (ap₂ (λ (w k : ℕ). bit (getD words w 0) k) word place))
 
-pub clean-off : (words values : List ℕ) (i n : ℕ) → 64 * i + 64 ≤ n → clean (isSet words) values (64 * i) 64 ≡ false
-    → clean (isSet words) values 0 n ≡ false
-clean-off words values i n inside here =
-    let rest = n - (64 * i + 64) in
-    ap (clean (isSet words) values 0) (omega arith) ∙ clean-parts (isSet words) values 0 (64 * i) (64 + rest)
-    ∙ rw (zero-add (64 * i), clean-parts (isSet words) values (64 * i) 64 rest, here) (and-false (clean (isSet words) values 0 (64 * i)))
+-- part after part: one more that is clean, and one that is not
+pub clean-on : (held : ℕ → Bool) (values : List ℕ) (x k : ℕ) → clean held values 0 x ≡ true → clean held values x k ≡ true → clean held values 0 (x + k) ≡ true
+clean-on held values x k before here = clean-parts held values 0 x k ∙ rw (before, zero-add x) here
+
+pub clean-off : (held : ℕ → Bool) (values : List ℕ) (x k n : ℕ) → x + k ≤ n → clean held values x k ≡ false → clean held values 0 n ≡ false
+clean-off held values x k n inside here =
+    let rest = n - (x + k) in
+    ap (clean held values 0) (omega arith) ∙ clean-parts held values 0 x (k + rest)
+    ∙ rw (zero-add x, clean-parts held values x k rest, here) (and-false (clean held values 0 x))

@@ -1,3 +1,4 @@
+pub mod Stretches
 pub mod Taking
 pub mod Cleaning
 pub mod Counting

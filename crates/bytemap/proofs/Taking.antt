@@ -2,44 +2,22 @@
 use Prim.Native.Nat.{ℕ, zero, suc, _+_, _-_, _/_, _%_, _^_, _≤_, _<_}
 use native.Mathlib.Omega.{arith}
 use mathlib.Core.Path.{_≡_, refl, ap, ap₂, sym, _∙_}
-use mathlib.Core.List.{List, [], _++_, map, map-append}
-use mathlib.Core.Bool.{Bool, true, false, cond, _&&_, and-true}
-use lib.Bits.{bitAnd}
-use lib.Dec.{ltb, eqb}
+use mathlib.Core.List.{List, _++_, map, map-append}
+use mathlib.Core.Bool.{Bool, true, false, cond}
+use lib.Dec.{eqb}
 use lib.Pow.{shr-shr}
-use lib.ListN.{length, getD, set, take, drop, length-map, length-take}
+use lib.ListN.{length, getD, take, drop, length-map, length-take}
 use lib.Seq.{take-all}
-use borrow.Author.Tests.{lt-ltb}
 use Rattle.octets.specs.Lists.{overwrite, part}
-use Rattle.octets.proofs.Overwrite.{overwrite-same, overwrite-part, overwrite-none, overwrite-then, overwrite-more, overwrite-above, length-overwrite}
+use Rattle.octets.proofs.Overwrite.{overwrite-same, overwrite-part, overwrite-none, overwrite-then, overwrite-above, length-overwrite}
 use Rattle.state.specs.Records.{span}
 use Rattle.state.proofs.Places.{length-span, span-append, map-read}
-use Rattle.bits.specs.Bits.{bit, isSet, wordOf}
-use Rattle.bits.proofs.Word.{bit-of-zero, word-bit}
-use Rattle.bits.proofs.Operations.{bit-and, full-word}
+use Rattle.bits.specs.Bits.{bit, isSet}
 use Rattle.bytemap.specs.Values.{bitsFrom, taken}
 
 -- a shift to the right moves the bits down
 pub bit-shifted : (w s j : ℕ) → bit (w / 2 ^ s) j ≡ bit w (s + j)
 bit-shifted w s j = ap (λ (n : ℕ). eqb (n % 2) 1) (shr-shr w s j)
-
--- a word of which every bit is set; and one of which none of the n lowest is, and one of which all of these are
-pub every-bit : (j : ℕ) → j < 64 → bit (2 ^ 64 - 1) j ≡ true
-every-bit j inside = ap (λ (w : ℕ). bit w j) (full-word 64 64 (omega arith)) ∙ word-bit (λ i. ltb i 64) 64 j inside ∙ lt-ltb j 64 inside
-
-masked : (w n j : ℕ) → j < n → j < 64 → bit (bitAnd w (wordOf (λ i. ltb i n) 64)) j ≡ bit w j
-masked w n j below inside =
-    bit-and w (wordOf (λ i. ltb i n) 64) j
-    ∙ ap (λ (b : Bool). bit w j && b) (word-bit (λ i. ltb i n) 64 j inside ∙ lt-ltb j n below) ∙ and-true (bit w j)
-
-pub none-set : (w f n j : ℕ) → f ≡ wordOf (λ i. ltb i n) 64 → bitAnd w f ≡ 0 → j < n → j < 64 → bit w j ≡ false
-none-set w f n j is none below inside =
-    sym (masked w n j below inside) ∙ ap (λ (g : ℕ). bit (bitAnd w g) j) (sym is) ∙ ap (λ (v : ℕ). bit v j) none ∙ bit-of-zero j
-
-pub all-set : (w f n j : ℕ) → f ≡ wordOf (λ i. ltb i n) 64 → bitAnd w f ≡ f → j < n → j < 64 → bit w j ≡ true
-all-set w f n j is every below inside =
-    sym (masked w n j below inside) ∙ ap (λ (g : ℕ). bit (bitAnd w g) j) (sym is) ∙ ap (λ (v : ℕ). bit v j) (every ∙ is)
-    ∙ word-bit (λ i. ltb i n) 64 j inside ∙ lt-ltb j n below
 
 -- what is taken depends on the tests and the values of the span alone
 pub taken-same :
@@ -114,27 +92,6 @@ lent-taken held values window now room a n fits reach is =
     let many = length-taken held values window a n in
     lent-part now room a n fits ∙ ap (λ (l : List ℕ). part l a n) is ∙ ap (part (overwrite values a bytes) a) (sym many)
     ∙ overwrite-part values bytes a (omega (arith, many))
-
--- one value taken
-pub taken-one : (held : ℕ → Bool) (values window : List ℕ) (x : ℕ) → x < length values
-    → set values x (cond (held x) (getD values x 0) (getD window x 0)) ≡ overwrite values x (taken held values window x 1)
-unfolding span
-taken-one held values window x inside =
-    ap (λ (l : List ℕ). set l x (cond (held x) (getD values x 0) (getD window x 0))) (sym (overwrite-none values (suc x)))
-    ∙ overwrite-more values [] x (cond (held x) (getD values x 0) (getD window x 0)) inside
-
--- one value taken, by the lowest bit of those that are left
-pub passed-one :
-    (bits : ℕ) (values window : List ℕ) (low i : ℕ) → low + i < length values →
-    let now = passed (bitsFrom low bits) values window low i in
-    set now (low + i) (cond (bit (bits / 2 ^ i) 0) (getD now (low + i) 0) (getD window (low + i) 0))
-    ≡ passed (bitsFrom low bits) values window low (i + 1)
-passed-one bits values window low i inside =
-    let now = passed (bitsFrom low bits) values window low i in
-    let here : bit (bits / 2 ^ i) 0 ≡ bitsFrom low bits (low + i) = bit-shifted bits i 0 ∙ ap (bit bits) (omega arith) in
-    rw here
-    (taken-one (bitsFrom low bits) now window (low + i) (omega (arith, length-passed (bitsFrom low bits) values window low i (omega arith)))
-    ∙ passed-more (bitsFrom low bits) values window low i 1 (omega arith))
 
 -- the bits of a word from that of an address on are those of the addresses from there on
 same-word : (words : List ℕ) (x y : ℕ) → x ≤ y → y < x + (64 - x % 64)

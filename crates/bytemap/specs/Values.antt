@@ -1,5 +1,5 @@
 -- What the code makes of the values and the window.
-use Prim.Native.Nat.{ℕ, _+_, _-_, _≤_}
+use Prim.Native.Nat.{ℕ, _+_, _-_, _≤_, _<_}
 use mathlib.Core.Path.{_≡_}
 use mathlib.Core.List.{List, map}
 use mathlib.Core.Bool.{Bool, cond, _||_}
@@ -12,6 +12,16 @@ use Rattle.bits.specs.Bits.{wordLimit, mapLimit, bit, isSet, wordsOf}
 -- the bits of a word, taken as those of the addresses from `low` on
 abbrev pub bitsFrom : (low bits : ℕ) → ℕ → Bool
 bitsFrom low bits x = bit bits (x - low)
+
+-- the n lowest bits are like the lowest one
+pub record Stretch (bits n : ℕ) : Type 0 where
+  pub same : (j : ℕ) → j < n → bit bits j ≡ bit bits 0
+
+-- how many lowest bits are known to be alike: none more than asked for, and one at least if any is asked for
+pub record Alike (bits n r : ℕ) : Type 0 where
+  pub stretch : Stretch bits r
+  pub most : r ≤ n
+  pub some : 0 < n → 0 < r
 
 -- the values of a span of addresses: a held one stays, and any other is the window's
 abbrev pub taken : (held : ℕ → Bool) → (values window : List ℕ) → (a n : ℕ) → List ℕ

@@ -1,9 +1,10 @@
 // Whether the values are zero where the addresses are not held.
+use crate::stretch::alike;
 ghost use mathlib.Core.Path.{_≡_};
-ghost use mathlib.Core.Bool.{false, cond};
+ghost use mathlib.Core.Bool.{false};
 ghost use lib.ListN.{length};
 ghost use Rattle.bits.specs.Bits.{bit, isSet, wordLimit, mapLimit};
-ghost use Rattle.bytemap.specs.Values.{clean};
+ghost use Rattle.bytemap.specs.Values.{clean, Stretch};
 
 // Where none is held all values must be zero. They are joined by a bitwise or, with no test before the end, so that many are looked at in one
 // instruction.
@@ -19,32 +20,35 @@ fn clean_none(values: &[u8]) -> bool
     or == 0
 }
 
-// A value, or 0 where the lowest bit says that it is held.
-fn unheld(bits: u64, value: u8) -> u8
-    ensures { λ r. ⌜ r ≡ cond (bit bits 0) 0 value ⌝ }
-{
-    if bits % 2 == 1 {
-        return 0;
-    }
-    value
-}
-
-// Value after value, where some are held and some are not.
-fn clean_some(bits: u64, values: &[u8]) -> bool
+// The values of a stretch, of which the lowest bit tells whether it is held. Where it is, any values may stand.
+fn clean_stretch(bits: u64, values: &[u8]) -> bool
+    requires { ⌜ Stretch bits (length (now values)) ⌝ }
     ensures { λ r. ⌜ r ≡ clean (bit bits) (now (values .entry)) 0 (length (now (values .entry))) ⌝ }
 {
-    let mut or: u8 = 0;
-    let mut rest = bits;
-    let mut i = 0;
-    while i < values.len() {
-        or = or | unheld(rest, values[i]);
-        rest = rest / 2;
-        i = i + 1;
+    if bits % 2 == 1 {
+        return true;
     }
-    or == 0
+    clean_none(values)
 }
 
-// The values of one word of the map. Where all are held, any values may stand.
+// The values of one word of the map, stretch after stretch.
+fn clean_stretches(bits: u64, values: &[u8]) -> bool
+    requires { ⌜ length (now values) ≡ 64 ⌝ }
+    ensures { λ r. ⌜ r ≡ clean (bit bits) (now (values .entry)) 0 64 ⌝ }
+{
+    let mut x = 0;
+    while x < 64 {
+        let rest = bits >> x;
+        let k = alike(rest, 64 - x);
+        if !clean_stretch(rest, &values[x..x + k]) {
+            return false;
+        }
+        x = x + k;
+    }
+    true
+}
+
+// The same, where most words have no bit set.
 fn clean_word(bits: u64, values: &[u8]) -> bool
     requires { ⌜ length (now values) ≡ 64 ⌝ }
     ensures { λ r. ⌜ r ≡ clean (bit bits) (now (values .entry)) 0 64 ⌝ }
@@ -52,13 +56,10 @@ fn clean_word(bits: u64, values: &[u8]) -> bool
     if bits == 0 {
         return clean_none(values);
     }
-    if bits == u64::MAX {
-        return true;
-    }
-    clean_some(bits, values)
+    clean_stretches(bits, values)
 }
 
-// The values of the whole map.
+// The values of the whole map, word after word.
 pub(crate) fn clean(words: &[u64], values: &[u8]) -> bool
     requires { ⌜ (length (now words) ≡ wordLimit) × (length (now values) ≡ mapLimit) ⌝ }
     ensures { λ r. ⌜ r ≡ clean (isSet (now (words .entry))) (now (values .entry)) 0 mapLimit ⌝ }

@@ -8,6 +8,7 @@ mod clean;
 pub mod end;
 pub mod fetch;
 mod holds;
+mod stretch;
 mod take;
 
 pub struct ByteMap {

@@ -1,5 +1,5 @@
 -- The loop's invariant: the values of the first i words are clean.
-use Prim.Native.Nat.{ℕ, _*_, _-_, _≤_}
+use Prim.Native.Nat.{ℕ, _+_, _*_, _-_, _≤_}
 use native.Mathlib.Omega.{arith}
 use mathlib.Core.Path.{_≡_, ap, sym, _∙_}
 use mathlib.Core.List.{List}
@@ -9,7 +9,7 @@ use denote.Ref.{now}
 use borrow.Author.Tests.{not-true, not-false}
 use Rattle.bits.specs.Bits.{isSet, mapLimit}
 use Rattle.bytemap.specs.Values.{clean}
-use Rattle.bytemap.proofs.Cleaning.{clean-start, clean-lent, clean-on, clean-off}
+use Rattle.bytemap.proofs.Cleaning.{clean-start, clean-word-lent, clean-on, clean-off}
 use Rattle.bytemap.proofs.clean.clean.Statement.{statement}
 use Rattle.bytemap.proofs.clean.clean.Tie as tie
 
@@ -34,7 +34,7 @@ module _ (c : tie.After-clean-word Inv-loop μ-loop) where
   values = now (c .before .before .before .before .before .before .before .args .values)
 
   tells : c .clean-word .result ≡ clean (isSet words) values (64 * at) 64
-  tells = c .clean-word .ensures ∙ clean-lent words values at
+  tells = c .clean-word .ensures ∙ clean-word-lent words values at
 
 clean-word-requires : tie.Need-clean-word-requires Inv-loop μ-loop
 clean-word-requires c κs = simp (length-take, length-drop) (omega arith)
@@ -42,12 +42,14 @@ clean-word-requires c κs = simp (length-take, length-drop) (omega arith)
 returns : tie.Need-returns Inv-loop μ-loop
 returns c =
     let w = c .before in
-    sym (clean-off (words w) (values w) (at w) mapLimit (omega arith) (sym (tells w) ∙ not-true _ (c .if1 .taken)))
+    sym (clean-off (isSet (words w)) (values w) (64 * at w) 64 mapLimit (omega arith) (sym (tells w) ∙ not-true _ (c .if1 .taken)))
 
 loop-again : tie.Need-loop-again Inv-loop μ-loop
 loop-again c =
     let w = c .before in
-    (omega arith, clean-on (words w) (values w) (at w) (w .before .before .before .before .loop .inv .1) (sym (tells w) ∙ not-false _ (c .if1 .left)))
+    let next : 64 * at w + 64 ≡ 64 * (at w + 1) = omega arith in
+    let clean-then = clean-on (isSet (words w)) (values w) (64 * at w) 64 (w .before .before .before .before .loop .inv .1) (sym (tells w) ∙ not-false _ (c .if1 .left)) in
+    (omega arith, ap (clean (isSet (words w)) (values w) 0) (sym next) ∙ clean-then)
 
 returns-2 : tie.Need-returns-2 Inv-loop μ-loop
 returns-2 c =

@@ -25,42 +25,48 @@ loop-holds c =
     let a = c .before .before .before .args in
     (omega arith, sym (taken-none (isSet (now (a .words))) (now (a .values)) (now (a .window)) (a .low)), refl)
 
--- how many addresses a turn takes: some, within the word and within the span
-module _ (c : tie.After-lesser Inv-loop μ-loop) where
+-- the stretch of a turn: one address at least, within the word and within the span
+module _ (c : tie.After-alike Inv-loop μ-loop) where
+  abbrev loop-at : tie.At-loop Inv-loop μ-loop
+  loop-at = c .before .before .before .before
+
+  abbrev start : tie.Start Inv-loop μ-loop
+  start = loop-at .before .before .before .before
+
   abbrev at : ℕ
-  at = c .before .before .before .before .before .before .args .low + c .before .before .loop .i
+  at = start .args .low + loop-at .loop .i
 
   abbrev many : ℕ
-  many = c .lesser .result
+  many = c .alike .result
 
   in-word : many ≤ 64 - at % 64
-  in-word = omega (arith, c .lesser .ensures)
+  in-word = omega (arith, c .before .lesser .ensures, c .alike .ensures .most)
 
-  in-span : c .before .before .loop .i + many ≤ c .before .before .before .before .before .before .args .n
-  in-span = omega (arith, c .lesser .ensures)
+  in-span : loop-at .loop .i + many ≤ start .args .n
+  in-span = omega (arith, c .before .lesser .ensures, c .alike .ensures .most)
 
   some : 0 < many
-  some = omega (arith, c .lesser .ensures)
+  some = c .alike .ensures .some (omega (arith, c .before .lesser .ensures))
 
-take-part-requires : tie.Need-take-part-requires Inv-loop μ-loop
-take-part-requires c κs =
-    let t = c .before .before in
-    (omega (arith, in-word t), omega (arith, in-span t), omega (arith, in-span t))
+take-stretch-requires : tie.Need-take-stretch-requires Inv-loop μ-loop
+take-stretch-requires c κs =
+    let t = c .before in
+    (t .alike .ensures .stretch, omega (arith, in-span t), omega (arith, in-span t))
 
 loop-again : tie.Need-loop-again Inv-loop μ-loop
 loop-again c =
     let turn = c .before .before in
-    let t = turn .before .before .before in
-    let l = t .before .before in
-    let a = l .before .before .before .before .args in
+    let t = turn .before .before in
+    let i = loop-at t .loop .i in
+    let a = start t .args in
     let put : List ℕ → List ℕ =
     λ v. overwrite v (at t) (taken (bitsFrom (at t) (getD (now (a .words)) (at t / 64) 0 / 2 ^ (at t % 64))) v (now (a .window)) (at t) (many t)) in
-    let next : _ ≡ passed (isSet (now (a .words))) (now (a .values)) (now (a .window)) (a .low) (l .loop .i + many t) =
-    turn .take-part .ensures ∙ ap put (l .loop .inv .1)
-    ∙ passed-word (now (a .words)) (now (a .values)) (now (a .window)) (a .low) (l .loop .i) (many t) (omega (arith, in-span t)) (in-word t) in (
+    let next : _ ≡ passed (isSet (now (a .words))) (now (a .values)) (now (a .window)) (a .low) (i + many t) =
+    turn .take-stretch .ensures ∙ ap put (loop-at t .loop .inv .1)
+    ∙ passed-word (now (a .words)) (now (a .values)) (now (a .window)) (a .low) i (many t) (omega (arith, in-span t)) (in-word t) in (
       in-span t,
       next,
-      rw next (length-passed (isSet (now (a .words))) (now (a .values)) (now (a .window)) (a .low) (l .loop .i + many t) (omega (arith, in-span t))),
+      rw next (length-passed (isSet (now (a .words))) (now (a .values)) (now (a .window)) (a .low) (i + many t) (omega (arith, in-span t))),
     )
 
 returns : tie.Need-returns Inv-loop μ-loop
@@ -80,13 +86,14 @@ take-spec =
     (λ c. omega arith)
     (λ c. omega arith)
     (λ c. omega arith)
+    (λ c. omega arith)
+    (λ c. omega arith)
+    (λ c. omega arith)
     (λ c κs. search needs)
-    (λ c. omega arith)
-    (λ c. omega arith)
-    (λ c. omega arith)
-    take-part-requires
-    (λ c. omega (arith, in-span (c .before .before .before .before .before)))
-    (λ c. omega (arith, some (c .before .before .before .before .before)))
+    (λ c κs. search needs)
+    take-stretch-requires
+    (λ c. omega (arith, in-span (c .before .before .before .before)))
+    (λ c. omega (arith, some (c .before .before .before .before)))
     loop-again
     (λ c. omega arith)
     returns)
