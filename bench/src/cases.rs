@@ -1,11 +1,13 @@
 //! What is measured: calls that follow others, and journals in pairs.
 //!
 //! - [`calls`]: the calls themselves.
+//! - [`maps`]: calls that the byte map makes too.
 //! - [`journals`]: frames of journals.
 //! - [`moved`]: how many bytes they move.
 
 mod calls;
 mod journals;
+mod maps;
 mod moved;
 
 use crate::call::Call;
@@ -36,6 +38,8 @@ pub enum Group {
     Fresh(usize),
     /// A fetch of 4,096 bytes that joins records.
     Overlap,
+    /// A call that the byte map makes too.
+    Map,
     /// A frame of a journal.
     Frame,
 }
@@ -91,6 +95,7 @@ impl Case {
 /// All cases.
 pub fn all() -> Vec<Case> {
     let mut cases = calls::all();
+    cases.extend(maps::all());
     cases.extend(journals::all());
     cases
 }

@@ -4,8 +4,8 @@
 use std::fmt::Write;
 
 use crate::cases::{Group, LENGTHS, RECORDS};
-use crate::table::{title, Figures, Measure};
-use crate::work::{Column, COLUMNS};
+use crate::table::{title, Figures, Measure, OF_CALLS};
+use crate::work::Column;
 
 const WIDTH: f64 = 300.0;
 const HEIGHT: f64 = 300.0;
@@ -60,7 +60,7 @@ pub fn picture(figures: &[Figures]) -> String {
             title,
             left: LEFT + (LEFT + WIDTH) * place as f64,
             marks: marks.to_vec(),
-            curves: COLUMNS.map(|column| curve(figures, group, column)).into(),
+            curves: OF_CALLS.map(|column| curve(figures, group, column)).into(),
         };
         panel.draw(&mut text).expect("a string takes every line");
     }
@@ -90,6 +90,7 @@ fn style(column: Column) -> String {
         Column::Ranges => ("#208040", "none"),
         Column::Bitmap => ("#a07000", "none"),
         Column::Copy => ("#808080", "2 2"),
+        Column::Map | Column::CheckedMap | Column::UncheckedMap => ("#702090", "none"),
     };
     format!("fill=\"none\" stroke=\"{colour}\" stroke-width=\"2\" stroke-dasharray=\"{dashes}\"")
 }

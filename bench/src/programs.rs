@@ -2,14 +2,17 @@
 //!
 //! - [`proved`]: the proved library.
 //! - [`ordinary`]: the plain program, with checks of the state and without.
+//! - [`maps`]: the byte map, proved and plain.
 //! - [`rivals`]: two ways without any checks.
 //! - [`nothing`]: what making a call costs without the call.
 
+mod maps;
 mod nothing;
 mod ordinary;
 mod proved;
 mod rivals;
 
+pub use maps::{Map, OneCommand};
 pub use nothing::Nothing;
 pub use ordinary::Ordinary;
 pub use proved::Proved;

@@ -7,14 +7,14 @@ mod painted;
 
 use std::hint::black_box;
 
-use boundary::WORDS;
+use boundary::{ByteMap, WORDS};
 use compare::journals::journal;
 
 use crate::answer::Answer;
 use crate::call::{make, Call, Sink, Unread};
-use crate::cases::{Case, Subject};
+use crate::cases::{Case, Group, Subject};
 use crate::memory::{Desk, Memory};
-use crate::programs::{Cache, Proved};
+use crate::programs::{Cache, OneCommand, Proved};
 use crate::work::{replay_of, Column};
 use painted::taken;
 
@@ -37,6 +37,15 @@ pub fn depths(cases: &[Case]) -> Vec<Depth> {
     depths.push(depth("frame read", of_reader()));
     depths.push(depth("frame write", of_writer()));
     depths.push(depth("journal replay", of_journals(cases)));
+    let mut map = ByteMap::FRESH;
+    depths.push(depth(
+        "map fresh",
+        taken(&mut || boundary::map_fresh(&mut map)),
+    ));
+    let calls = ["begin", "fetch", "end"]
+        .into_iter()
+        .zip(["map begin", "map fetch", "map end"]);
+    depths.extend(calls.map(|(call, function)| depth(function, of_map_call(cases, call))));
     depths
 }
 
@@ -68,7 +77,17 @@ fn function(call: Call) -> &'static str {
 /// The most that a function takes in all calls of the cases.
 fn of_call(cases: &[Case], name: &str) -> usize {
     let depths = cases.iter().filter_map(|case| match &case.subject {
-        Subject::Calls { before, unit } => of_list(before, unit, name),
+        Subject::Calls { before, unit } => of_list::<Proved>(before, unit, name),
+        Subject::Journals { .. } => None,
+    });
+    depths.max().unwrap_or(0)
+}
+
+/// The same in all cases of the byte map.
+fn of_map_call(cases: &[Case], name: &str) -> usize {
+    let of_maps = cases.iter().filter(|case| case.group == Group::Map);
+    let depths = of_maps.filter_map(|case| match &case.subject {
+        Subject::Calls { before, unit } => of_list::<OneCommand<ByteMap>>(before, unit, name),
         Subject::Journals { .. } => None,
     });
     depths.max().unwrap_or(0)
@@ -76,8 +95,8 @@ fn of_call(cases: &[Case], name: &str) -> usize {
 
 /// The most that a function takes among calls that follow others, if it is
 /// among them.
-fn of_list(before: &[Call], unit: &[Call], name: &str) -> Option<usize> {
-    let (mut cache, mut memory) = (Proved::new(), Memory::new());
+fn of_list<C: Cache>(before: &[Call], unit: &[Call], name: &str) -> Option<usize> {
+    let (mut cache, mut memory) = (C::new(), Memory::new());
     for call in before {
         make(&mut cache, &mut memory, *call, &mut Unread);
     }

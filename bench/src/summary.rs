@@ -1,7 +1,7 @@
 //! Where the proved library is ahead and where it is behind, in a few lines.
 
 use crate::cases::Group;
-use crate::table::{capital, Figures, Measure, MEASURES};
+use crate::table::{capital, parted, Figures, Measure, MEASURES};
 use crate::work::Column;
 
 /// So many rows that are behind are named, the highest first.
@@ -9,11 +9,13 @@ const NAMED: usize = 6;
 
 /// A list of lines for the document's beginning.
 pub fn lines(figures: &[Figures]) -> String {
-    let (frames, calls): (Vec<_>, Vec<_>) = figures
-        .iter()
-        .partition(|figures| figures.group == Group::Frame);
+    let [calls, maps, frames] = parted(figures);
     let mut text = String::new();
-    for (rows, what) in [(&calls, "calls"), (&frames, "frames of journals")] {
+    for (rows, what) in [
+        (&calls, "calls"),
+        (&maps, "calls of the byte map"),
+        (&frames, "frames of journals"),
+    ] {
         for measure in MEASURES {
             text += &against_checks(rows, what, measure);
         }

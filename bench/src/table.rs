@@ -54,10 +54,10 @@ impl Figures {
     }
 
     /// What the proved library takes of what the plain program with checks
-    /// takes.
+    /// takes, of the byte map where the case is one of it.
     pub fn ratio(&self, measure: Measure) -> Option<f64> {
-        let proved = self.of(measure, Column::Proved)?;
-        Some(proved / self.of(measure, Column::Checked)?)
+        let [proved, checked] = compared(self.group);
+        Some(self.of(measure, proved)? / self.of(measure, checked)?)
     }
 
     fn row(&self, measure: Measure, columns: &[Column]) -> String {
@@ -73,6 +73,14 @@ impl Figures {
     }
 }
 
+/// The two columns of which a table has the ratio.
+fn compared(group: Group) -> [Column; 2] {
+    match group {
+        Group::Map => [Column::Map, Column::CheckedMap],
+        _ => [Column::Proved, Column::Checked],
+    }
+}
+
 /// What stands above a column.
 pub fn title(column: Column) -> &'static str {
     match column {
@@ -82,8 +90,42 @@ pub fn title(column: Column) -> &'static str {
         Column::Ranges => "ranges",
         Column::Bitmap => "bitmap",
         Column::Copy => "one copy",
+        Column::Map => "byte map, proved",
+        Column::CheckedMap => "byte map, plain, checks",
+        Column::UncheckedMap => "byte map, plain, no checks",
     }
 }
+
+/// The same in a table of the byte map, where two kinds of engines stand beside
+/// each other.
+fn title_in(group: Group, column: Column) -> String {
+    match (group, column) {
+        (Group::Map, Column::Proved | Column::Checked) => format!("records, {}", title(column)),
+        _ => title(column).to_string(),
+    }
+}
+
+/// The columns that a call has.
+pub const OF_CALLS: [Column; 6] = [
+    Column::Proved,
+    Column::Checked,
+    Column::Unchecked,
+    Column::Ranges,
+    Column::Bitmap,
+    Column::Copy,
+];
+
+/// The columns that a call has which the byte map makes too: its own come first.
+const OF_MAPS: [Column; 8] = [
+    Column::Map,
+    Column::CheckedMap,
+    Column::UncheckedMap,
+    Column::Proved,
+    Column::Checked,
+    Column::Ranges,
+    Column::Bitmap,
+    Column::Copy,
+];
 
 /// The columns that a journal has.
 const OF_JOURNALS: [Column; 4] = [
@@ -93,14 +135,26 @@ const OF_JOURNALS: [Column; 4] = [
     Column::Copy,
 ];
 
+/// The rows of calls, of calls that the byte map makes too, and of journals.
+pub fn parted(figures: &[Figures]) -> [Vec<&Figures>; 3] {
+    let of = |wanted: fn(Group) -> bool| {
+        let rows = figures.iter();
+        rows.filter(|row| wanted(row.group)).collect()
+    };
+    [
+        of(|group| !matches!(group, Group::Map | Group::Frame)),
+        of(|group| group == Group::Map),
+        of(|group| group == Group::Frame),
+    ]
+}
+
 /// The tables of calls and of journals, by each measure, and of the stack.
 pub fn tables(figures: &[Figures], depths: &[Depth]) -> String {
-    let (frames, calls): (Vec<_>, Vec<_>) = figures
-        .iter()
-        .partition(|figures| figures.group == Group::Frame);
+    let [calls, maps, frames] = parted(figures);
     let mut text = String::new();
     for (title, rows, columns) in [
-        ("one call", &calls, &COLUMNS[..]),
+        ("one call", &calls, &OF_CALLS[..]),
+        ("one call that the byte map makes too", &maps, &OF_MAPS[..]),
         ("one frame of a journal", &frames, &OF_JOURNALS[..]),
     ] {
         for measure in MEASURES {
@@ -112,11 +166,13 @@ pub fn tables(figures: &[Figures], depths: &[Depth]) -> String {
 
 fn table(what: &str, measure: Measure, rows: &[&Figures], columns: &[Column]) -> String {
     let mut text = format!("\n### {} of {what}\n\n", capital(measure.name()));
-    text += &format!("| {what} | bytes moved | proved : plain, checks |");
+    let group = rows.first().map_or(Group::Call, |row| row.group);
+    let [proved, checked] = compared(group).map(title);
+    text += &format!("| {what} | bytes moved | {proved} : {checked} |");
     text.extend(
         columns
             .iter()
-            .map(|column| format!(" {} |", title(*column))),
+            .map(|column| format!(" {} |", title_in(group, *column))),
     );
     text += &format!("\n|---|---|---|{}\n", "---|".repeat(columns.len()));
     text.extend(rows.iter().map(|row| row.row(measure, columns)));

@@ -1,13 +1,15 @@
 //! Something to be measured, by the column of the tables that it belongs to.
 
+use boundary::ByteMap;
 use peers::bitmap::Bitmap;
 use peers::ranges::Ranges;
+use plain::byte_map::ByteMap as Plain;
 use plain::journal::{replay, Run};
 
 use crate::call::{make, Call, Unread};
-use crate::cases::{Case, Subject};
+use crate::cases::{Case, Group, Subject};
 use crate::memory::{Desk, Memory};
-use crate::programs::{Cache, Nothing, Ordinary, Proved};
+use crate::programs::{Cache, Map, Nothing, OneCommand, Ordinary, Proved};
 
 /// What is measured.
 #[derive(Clone, Copy, Debug, PartialEq, Eq)]
@@ -21,15 +23,24 @@ pub enum Column {
     Bitmap,
     /// As many bytes as the calls move, copied at once.
     Copy,
+    /// The proved byte map.
+    Map,
+    /// The plain byte map that checks its parts at each call.
+    CheckedMap,
+    /// The plain byte map that does not.
+    UncheckedMap,
 }
 
-pub const COLUMNS: [Column; 6] = [
+pub const COLUMNS: [Column; 9] = [
     Column::Proved,
     Column::Checked,
     Column::Unchecked,
     Column::Ranges,
     Column::Bitmap,
     Column::Copy,
+    Column::Map,
+    Column::CheckedMap,
+    Column::UncheckedMap,
 ];
 
 /// A value for each column, if the column has one.
@@ -64,7 +75,12 @@ pub fn works(case: &Case, column: Column) -> Option<[Box<dyn Work>; 2]> {
         }
         (Subject::Calls { before, unit }, _) => {
             let unit = unit.repeat(case.units);
+            let is_of_map = case.group == Group::Map;
             let whole = match column {
+                Column::Map if is_of_map => map_calls::<ByteMap>(before, &unit),
+                Column::CheckedMap if is_of_map => map_calls::<Plain<true>>(before, &unit),
+                Column::UncheckedMap if is_of_map => map_calls::<Plain<false>>(before, &unit),
+                Column::Map | Column::CheckedMap | Column::UncheckedMap => return None,
                 Column::Proved => calls::<Proved>(before, &unit),
                 Column::Checked => calls::<Ordinary<true>>(before, &unit),
                 Column::Unchecked => calls::<Ordinary<false>>(before, &unit),
@@ -75,6 +91,11 @@ pub fn works(case: &Case, column: Column) -> Option<[Box<dyn Work>; 2]> {
             Some([whole, calls::<Nothing>(before, &unit)])
         }
     }
+}
+
+/// The calls of a byte map.
+fn map_calls<M: Map + 'static>(before: &[Call], measured: &[Call]) -> Box<dyn Work> {
+    calls::<OneCommand<M>>(before, measured)
 }
 
 /// Calls that follow others which are not measured.

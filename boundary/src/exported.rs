@@ -155,4 +155,22 @@ extern "C" {
         output: *mut u8,
         output_size: usize,
     ) -> Replayed;
+
+    pub fn doorclover_map_fresh(open: *mut u64, words: *mut u64, values: *mut u8);
+
+    pub fn doorclover_map_begin(open: *mut u64, words: *mut u64, values: *mut u8) -> Begun;
+
+    pub fn doorclover_map_fetch(
+        open: *const u64,
+        words: *mut u64,
+        values: *mut u8,
+        window: *const u8,
+        window_size: usize,
+        destination: *mut u8,
+        destination_size: usize,
+        address: usize,
+        length: usize,
+    ) -> Fetched;
+
+    pub fn doorclover_map_end(open: *mut u64, words: *mut u64, values: *mut u8) -> Ended;
 }

@@ -1,11 +1,12 @@
 //! The functions that the proved library exports, as Rust calls them.
 //!
 //! The library takes each slice as two arguments, a pointer to its first byte
-//! and its length, and a state as one pointer to its words. What it promises
-//! of them is in `crates/doorclover/specs`. It asks nothing of their values
-//! and lengths; it does rely on what a Rust reference means: the memory is
-//! there, no two of the arguments share a byte, and nobody else writes them
-//! during the call. The safe functions here have that from their types.
+//! and its length, a state as one pointer to its words, and a byte map as one
+//! pointer to each of its parts. What it promises of them is in
+//! `crates/doorclover/specs`. It asks nothing of their values and lengths; it
+//! does rely on what a Rust reference means: the memory is there, no two of the
+//! arguments share a byte, and nobody else writes them during the call. The safe
+//! functions here have that from their types.
 //! [`fetch_in`] does not for the window, and whoever calls it answers for it.
 
 mod exported;
@@ -19,6 +20,27 @@ pub const WORDS: usize = 1032;
 /// than the number of its records, and then the start and the length of each
 /// of its 64 entries.
 pub type Words = [u16; WORDS];
+
+/// The parts of a byte map, the engine of one command. They may have any values.
+#[derive(Clone, Debug, PartialEq, Eq)]
+pub struct ByteMap {
+    /// 0 if the command is closed, and anything else if it is open.
+    pub open: u64,
+    /// A bit for each address, set if it is held: that of address x is bit
+    /// x mod 64 of word x / 64.
+    pub words: [u64; 64],
+    /// The held value of each address; 0 where none is held.
+    pub values: [u8; 4096],
+}
+
+impl ByteMap {
+    /// The fresh map.
+    pub const FRESH: ByteMap = ByteMap {
+        open: 0,
+        words: [0; 64],
+        values: [0; 4096],
+    };
+}
 
 /// A window as a place in memory, for memory that no Rust reference may stand
 /// for.
@@ -197,4 +219,46 @@ pub fn journal_replay(
             output.len(),
         )
     }
+}
+
+/// Makes the fresh map.
+pub fn map_fresh(map: &mut ByteMap) {
+    let (words, values) = (map.words.as_mut_ptr(), map.values.as_mut_ptr());
+    // SAFETY: the parts come from a reference.
+    unsafe { exported::doorclover_map_fresh(&mut map.open, words, values) }
+}
+
+pub fn map_begin(map: &mut ByteMap) -> Begun {
+    let (words, values) = (map.words.as_mut_ptr(), map.values.as_mut_ptr());
+    // SAFETY: the parts come from a reference that lives through the call.
+    unsafe { exported::doorclover_map_begin(&mut map.open, words, values) }
+}
+
+pub fn map_fetch(
+    map: &mut ByteMap,
+    window: &[u8],
+    destination: &mut [u8],
+    address: usize,
+    length: usize,
+) -> Fetched {
+    // SAFETY: what is lent comes from references that live through the call.
+    unsafe {
+        exported::doorclover_map_fetch(
+            &map.open,
+            map.words.as_mut_ptr(),
+            map.values.as_mut_ptr(),
+            window.as_ptr(),
+            window.len(),
+            destination.as_mut_ptr(),
+            destination.len(),
+            address,
+            length,
+        )
+    }
+}
+
+pub fn map_end(map: &mut ByteMap) -> Ended {
+    let (words, values) = (map.words.as_mut_ptr(), map.values.as_mut_ptr());
+    // SAFETY: the parts come from a reference that lives through the call.
+    unsafe { exported::doorclover_map_end(&mut map.open, words, values) }
 }

@@ -1,6 +1,6 @@
 //! A second opinion on the command fetch cache, written from documents 01 (the
-//! agreed scope) and 02 (the agreed changes; of it F-1) alone. docs/RULES.md
-//! has their rules.
+//! agreed scope) and 02 (the agreed changes; of it F-1 and F-2) alone.
+//! docs/RULES.md has their rules.
 //!
 //! A fetch is worked out here through a map from address to held byte, whose
 //! unbroken runs are the records, and only then packed back into the book and
@@ -10,11 +10,13 @@
 //! - [`refusal`]: the numbers with which a call or a frame is turned away.
 //! - [`book`]: spans, the book of records, and the check that it holds together.
 //! - [`cache`]: the six calls.
+//! - [`byte_map`]: the plain engine of one command.
 //! - [`frames`]: the reader and the writer of step frames.
 //! - [`journal`]: frames carried out one after the other, and their log.
 //! - [`log`]: the log program, from input bytes to output text.
 
 pub mod book;
+pub mod byte_map;
 pub mod cache;
 pub mod frames;
 mod held;

@@ -1,6 +1,6 @@
 //! The numbers of the two lists "Turned away because of the input" and
 //! "Turned away because of the state" in 01 (the agreed scope; docs/RULES.md has
-//! its rules).
+//! its rules), and that of the byte map, F-2 in 02 (the agreed changes).
 
 /// Why a call or a frame is turned away. The order of the cases is the order
 /// of their numbers.
@@ -40,10 +40,12 @@ pub enum Refusal {
     TooManyRecords = 24,
     /// The command has no record of that index.
     NoSuchRecord = 25,
+    /// The window has more addresses than the byte map.
+    WindowBeyondMap = 30,
 }
 
 impl Refusal {
-    /// The number that 01 gives to this case.
+    /// The number that 01 or 02 gives to this case.
     pub fn number(self) -> u8 {
         self as u8
     }
@@ -59,6 +61,16 @@ pub(crate) fn refuse_lowest<const N: usize>(cases: [(bool, Refusal); N]) -> Resu
         .min();
     match lowest {
         Some(refusal) => Err(refusal),
+        None => Ok(()),
+    }
+}
+
+/// Answers with the first refusal that is marked as applying, and with none if
+/// none applies: for the byte map, whose 30 is judged in the place of 7 (F-2 in
+/// 02).
+pub(crate) fn refuse_first<const N: usize>(cases: [(bool, Refusal); N]) -> Result<(), Refusal> {
+    match cases.into_iter().find(|(applies, _)| *applies) {
+        Some((_, refusal)) => Err(refusal),
         None => Ok(()),
     }
 }

@@ -10,7 +10,7 @@ use sampling::layout::{frame, head};
 use crate::scene::{evenly, open_with, Scene};
 
 /// All choices from the given numbers, the empty one included.
-fn choices(numbers: &[u8]) -> Vec<Vec<u8>> {
+pub fn choices(numbers: &[u8]) -> Vec<Vec<u8>> {
     (0..1u32 << numbers.len())
         .map(|mask| {
             (0..numbers.len())
@@ -22,22 +22,27 @@ fn choices(numbers: &[u8]) -> Vec<Vec<u8>> {
 }
 
 /// The numbers that a test got, to be held against those a call can give.
-struct Seen(BTreeSet<u8>);
+pub struct Seen(BTreeSet<u8>);
 
 impl Seen {
-    fn new() -> Seen {
+    pub fn new() -> Seen {
         Seen(BTreeSet::new())
     }
 
     /// Holds an answer against the flaws that were built into the input.
     fn check<Reply>(&mut self, answer: Result<Reply, u8>, flaws: &[u8]) {
+        self.check_one(answer, flaws.iter().min().copied(), flaws);
+    }
+
+    /// Holds an answer against the one number, or none, that is due for the flaws.
+    pub fn check_one<Reply>(&mut self, answer: Result<Reply, u8>, due: Option<u8>, flaws: &[u8]) {
         let got = answer.err();
-        assert_eq!(got, flaws.iter().min().copied(), "flaws {flaws:?}");
+        assert_eq!(got, due, "flaws {flaws:?}");
         self.0.extend(got);
     }
 
     /// Every number that the call can give was given.
-    fn all_of(&self, numbers: &[u8]) {
+    pub fn all_of(&self, numbers: &[u8]) {
         assert_eq!(self.0, numbers.iter().copied().collect());
     }
 }

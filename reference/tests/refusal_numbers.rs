@@ -1,5 +1,5 @@
 //! Each named case has the number that 01 (the agreed scope; docs/RULES.md has
-//! its rules) gives it.
+//! its rules) or 02 (the agreed changes) gives it.
 
 use reference::refusal::Refusal;
 
@@ -23,6 +23,7 @@ fn every_case_has_its_number() {
         (Refusal::TooManyBytes, 23),
         (Refusal::TooManyRecords, 24),
         (Refusal::NoSuchRecord, 25),
+        (Refusal::WindowBeyondMap, 30),
     ];
     for (refusal, number) in numbers {
         assert_eq!(refusal.number(), number);

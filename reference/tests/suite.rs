@@ -1,16 +1,21 @@
 //! The tests of the reference, one file for each matter. A new file is listed
 //! here, or it is not run.
 
+mod map_scene;
 mod model;
 mod scene;
 
 mod any_book;
 mod broken_books;
+mod broken_maps;
 mod frames_both_ways;
 mod journals;
 mod limits_of_calls;
 mod limits_of_frames;
+mod limits_of_maps;
 mod log_program;
+mod map_beside_records;
+mod order_of_map_refusals;
 mod order_of_refusals;
 mod program;
 mod random_lists;

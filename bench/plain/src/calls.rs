@@ -17,7 +17,7 @@ pub struct Cache<const CHECKED: bool> {
 }
 
 /// The refusal, if it applies.
-fn refuse(number: u8, applies: bool) -> Result<(), u8> {
+pub(crate) fn refuse(number: u8, applies: bool) -> Result<(), u8> {
     if applies {
         Err(number)
     } else {
@@ -32,7 +32,7 @@ fn part(store: &mut [u8], command: usize) -> &mut [u8] {
 
 /// Whether a span ends behind the window; no sum is formed that could be too
 /// large.
-fn outside(window: &[u8], address: usize, length: usize) -> bool {
+pub(crate) fn outside(window: &[u8], address: usize, length: usize) -> bool {
     length > window.len() || address > window.len() - length
 }
 

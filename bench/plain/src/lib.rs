@@ -4,11 +4,13 @@
 //!
 //! - [`state`]: the records, and whether they hold together.
 //! - [`calls`]: the calls, with a check of the state at each and without.
+//! - [`byte_map`]: the byte map, with a check of the map at each call and without.
 //! - [`meeting`]: a span among records.
 //! - [`frames`]: the reader of frames.
 //! - [`text`]: text in a lent buffer.
 //! - [`journal`]: frames carried out, and their log.
 
+pub mod byte_map;
 pub mod calls;
 pub mod frames;
 pub mod journal;

@@ -48,6 +48,13 @@ pub enum Call {
         data: usize,
     },
     Replay(Bytes),
+    /// The calls of the byte map.
+    MapFresh,
+    MapBegin,
+    MapFetch {
+        span: Span,
+    },
+    MapEnd,
 }
 
 /// Bytes as they stand, and how many made ones follow.
@@ -70,6 +77,15 @@ pub enum Setting {
         place: usize,
         values: Vec<u16>,
     },
+    /// What the byte map has for open.
+    MapOpen { value: u64 },
+    /// Words of the byte map, from a place on.
+    MapWords { place: usize, values: Vec<u64> },
+    /// Values of the byte map, from an address on.
+    MapValues { place: usize, values: Vec<u8> },
+    /// So many spans of the byte map, each a step further on: their bits are set,
+    /// and each of their addresses gets a value that is not zero.
+    MapRuns { count: u64, span: Span, step: u64 },
 }
 
 impl Call {
@@ -87,6 +103,10 @@ impl Call {
             Call::Read(_) => "read",
             Call::Write { .. } => "write",
             Call::Replay(_) => "replay",
+            Call::MapFresh => "map-fresh",
+            Call::MapBegin => "map-begin",
+            Call::MapFetch { .. } => "map-fetch",
+            Call::MapEnd => "map-end",
         }
     }
 
@@ -113,11 +133,14 @@ impl fmt::Display for Call {
         write!(out, "{}", self.name())?;
         match self {
             Call::Release | Call::Fresh => Ok(()),
+            Call::MapFresh | Call::MapBegin | Call::MapEnd => Ok(()),
             Call::Begin { command } | Call::End { command } => write!(out, " {command}"),
             Call::Fetch { command, span } | Call::Own { command, span } => {
                 write!(out, " {command} {}+{}", span.start, span.length)
             }
-            Call::Host { span } => write!(out, " {}+{}", span.start, span.length),
+            Call::Host { span } | Call::MapFetch { span } => {
+                write!(out, " {}+{}", span.start, span.length)
+            }
             Call::Show { command, index } => write!(out, " {command} {index}"),
             Call::Read(bytes) | Call::Replay(bytes) => write!(out, "{bytes}"),
             Call::Write {
@@ -157,6 +180,19 @@ impl fmt::Display for Setting {
             } => {
                 write!(out, "words {command} {place}")?;
                 values.iter().try_for_each(|value| write!(out, " {value}"))
+            }
+            Setting::MapOpen { value } => write!(out, "map-open {value}"),
+            Setting::MapWords { place, values } => {
+                write!(out, "map-words {place}")?;
+                values.iter().try_for_each(|value| write!(out, " {value}"))
+            }
+            Setting::MapValues { place, values } => {
+                write!(out, "map-values {place}")?;
+                values.iter().try_for_each(|value| write!(out, " {value}"))
+            }
+            Setting::MapRuns { count, span, step } => {
+                let Span { start, length } = span;
+                write!(out, "map-runs {count} {start}+{length} {step}")
             }
         }
     }

@@ -1,6 +1,7 @@
 //! A call, made in the reference.
 
 use reference::book::{Book, Span};
+use reference::byte_map::{self, ByteMap};
 use reference::cache;
 use reference::frames::{read_frame, write_frame, Step};
 use reference::journal::{replay, Lent};
@@ -17,6 +18,7 @@ const RELEASE: u64 = 1;
 #[derive(Clone)]
 pub struct Expected {
     pub book: Book,
+    pub map: ByteMap,
     pub buffers: Buffers,
 }
 
@@ -41,6 +43,9 @@ impl Expected {
                 Answer::of(made.map(|length| [length as u64]))
             }
             Call::Replay(_) => self.replay(data),
+            Call::MapFresh | Call::MapBegin | Call::MapFetch { .. } | Call::MapEnd => {
+                self.make_on_map(call)
+            }
             _ => self.make_on_book(call, data),
         }
     }
@@ -70,6 +75,26 @@ impl Expected {
                 Answer::of(shown.map(|record| [record.start, record.length]))
             }
             _ => unreachable!("{call} is no call of the cache"),
+        }
+    }
+
+    /// The calls of the byte map.
+    fn make_on_map(&mut self, call: &Call) -> Answer {
+        let map = &mut self.map;
+        match *call {
+            Call::MapFresh => {
+                *map = ByteMap::FRESH;
+                Answer::new([])
+            }
+            Call::MapBegin => Answer::of(byte_map::begin(map).map(|()| [])),
+            Call::MapEnd => Answer::of(byte_map::end(map).map(|had| [had.records, had.bytes])),
+            Call::MapFetch { span } => {
+                let window = self.buffers.window.lent();
+                let destination = self.buffers.destination.lent();
+                let fetched = byte_map::fetch(map, window, span.start, span.length, destination);
+                Answer::of(fetched.map(|counts| [counts.fresh, counts.replayed]))
+            }
+            _ => unreachable!("{call} is no call of the byte map"),
         }
     }
 

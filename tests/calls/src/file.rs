@@ -3,10 +3,11 @@
 //! A line is a call or a setting, as in [`crate::line`], or one of these:
 //!
 //! ```text
-//! part TITLE       the fresh state, and the usual bytes and lengths of all buffers
+//! part TITLE       the fresh state and map, and the usual bytes and lengths of
+//!                  all buffers
 //! list NAME        starts a list of calls and settings
 //! done             ends it
-//! try NAME         makes the calls of a list, and puts back state and buffers
+//! try NAME         makes the calls of a list, and puts back state, map and buffers
 //! try NAME = 20    the same, and each of its calls has to answer so
 //! ```
 //!
@@ -157,7 +158,9 @@ mod tests {
         let text = "release\nfresh\nbegin 8\nend 18446744073709551615\nfetch 3 16+4\n\
                     host 0+70000\nown 7 65535+1\nshow 2 64\nread\nread 28 00 +3\n\
                     write 9 8 65536+4097 1\nreplay 08 00\nlend window 0\nlend store 65536\n\
-                    fill output 7\nwords 7 128 65535\npart two words";
+                    fill output 7\nwords 7 128 65535\npart two words\nmap-fresh\nmap-begin\n\
+                    map-fetch 4095+1\nmap-end\nmap-open 18446744073709551615\n\
+                    map-words 62 0 18446744073709551615\nmap-values 4094 255 0\nmap-runs 64 1+2 64";
         let expected: Vec<String> = text
             .lines()
             .enumerate()
@@ -204,7 +207,7 @@ mod tests {
     }
 
     /// A line that cannot be read, and why.
-    const BAD: [(&str, &str); 32] = [
+    const BAD: [(&str, &str); 41] = [
         ("bgin 1", "'bgin' is not known"),
         ("begin", "a word is missing at the end"),
         ("begin 1 2", "'2' is too much"),
@@ -236,7 +239,22 @@ mod tests {
         ("entries 1 65 0+1 1", "65 is above 64"),
         ("entries 1 64 65473+1 1", "65536 is above 65535"),
         ("words 1 129 1", "129 is above 128"),
-        ("words 1 128 1 2", "there are 1 words from that place on"),
+        ("words 1 128 1 2", "there are 1 values from that place on"),
+        ("map-begin 1", "'1' is too much"),
+        ("map-fetch", "a word is missing at the end"),
+        ("map-open 1 = 0", "only a call has an answer"),
+        ("map-words 64 1", "64 is above 63"),
+        ("map-words 63 1 1", "there are 1 values from that place on"),
+        ("map-values 4096 1", "4096 is above 4095"),
+        ("map-values 0 256", "256 is above 255"),
+        (
+            "map-runs 65 1+1 64",
+            "the map does not have all of these addresses",
+        ),
+        (
+            "map-runs 0 0+4097 1",
+            "the map does not have all of these addresses",
+        ),
         ("words 1 0", "a word is missing at the end"),
         ("lend store 1 = 0", "only a call has an answer"),
         ("begin 1 =", "there is no number behind '='"),

@@ -7,10 +7,12 @@
 //! - [`file`]: the whole file, `calls.txt`.
 //! - [`random`]: lists of calls that depend on a seed alone; [`states`] has the
 //!   words that some start from.
+//! - [`map_lists`]: such lists of calls of the byte map.
 //!
 //! Calling and comparing:
 //! - [`buffers`]: the buffers of which parts are lent.
 //! - [`words`]: the words of a state and the reference's book, one from the other.
+//! - [`maps`]: the byte map of both sides.
 //! - [`library`] and [`expected`]: a call in the library and in the reference.
 //! - [`answer`]: what a call answers.
 //! - [`pair`]: both sides, compared after each call.
@@ -24,6 +26,8 @@ pub mod expected;
 pub mod file;
 pub mod library;
 pub mod line;
+pub mod map_lists;
+pub mod maps;
 pub mod pair;
 pub mod random;
 pub mod states;

@@ -1,6 +1,7 @@
 //! A call, made in the proved library.
 
-use boundary::Words;
+use boundary::{ByteMap, Words};
+use reference::book::Span;
 
 use crate::answer::Answer;
 use crate::buffers::Buffers;
@@ -10,6 +11,7 @@ use crate::call::Call;
 #[derive(Clone)]
 pub struct Library {
     pub words: Words,
+    pub map: ByteMap,
     pub buffers: Buffers,
 }
 
@@ -46,6 +48,9 @@ impl Library {
                 Answer::status(framed.status, [framed.length as u64])
             }
             Call::Replay(_) => self.replay(data),
+            Call::MapFresh | Call::MapBegin | Call::MapFetch { .. } | Call::MapEnd => {
+                self.make_on_map(call)
+            }
             _ => self.make_on_state(call, data),
         }
     }
@@ -66,6 +71,23 @@ impl Library {
                 Answer::status(shown.status, record)
             }
             _ => unreachable!("{call} is no call of the cache"),
+        }
+    }
+
+    /// The calls of the byte map.
+    fn make_on_map(&mut self, call: &Call) -> Answer {
+        match *call {
+            Call::MapFresh => {
+                boundary::map_fresh(&mut self.map);
+                Answer::new([])
+            }
+            Call::MapBegin => Answer::status(boundary::map_begin(&mut self.map).status, []),
+            Call::MapFetch { span } => self.map_fetch(span),
+            Call::MapEnd => {
+                let ended = boundary::map_end(&mut self.map);
+                Answer::status(ended.status, [ended.records as u64, ended.bytes as u64])
+            }
+            _ => unreachable!("{call} is no call of the byte map"),
         }
     }
 
@@ -111,6 +133,18 @@ impl Library {
             data,
         );
         Answer::status(written.status, [written.bytes as u64])
+    }
+
+    fn map_fetch(&mut self, span: Span) -> Answer {
+        let fetched = boundary::map_fetch(
+            &mut self.map,
+            self.buffers.window.lent(),
+            self.buffers.destination.lent(),
+            span.start as usize,
+            span.length as usize,
+        );
+        let counts = [fetched.fresh as u64, fetched.replayed as u64];
+        Answer::status(fetched.status, counts)
     }
 
     fn replay(&mut self, journal: &[u8]) -> Answer {

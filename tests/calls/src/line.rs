@@ -7,6 +7,7 @@
 //! host A+N                  own C A+N             N made bytes
 //! read HEX.. [+N]           replay HEX.. [+N]     these bytes, then N made ones
 //! write KIND C A+N DATA                           DATA made bytes
+//! map-fresh  map-begin  map-fetch A+N  map-end    calls of the byte map
 //!
 //! lend BUFFER N             lends the first N bytes of a buffer
 //! fill BUFFER SEED          gives a buffer the bytes of a seed
@@ -15,6 +16,11 @@
 //! entry C K A+N             entry K of a command
 //! entries C COUNT A+N STEP  its first COUNT entries, each starts STEP further on
 //! words C PLACE VALUE..     words of a command, from a place on
+//! map-open VALUE            what the byte map has for open
+//! map-words PLACE VALUE..   words of the byte map, from a place on
+//! map-values A VALUE..      values of the byte map, from an address on
+//! map-runs COUNT A+N STEP   sets the bits of COUNT spans, each STEP further on,
+//!                           and gives their addresses values
 //! ```
 //!
 //! A call may end in `= NUMBER..`, the first numbers of its answer.
@@ -23,10 +29,11 @@ use std::fmt;
 use std::slice::Iter;
 
 use reference::book::Span;
-use reference::limits::{COMMANDS, RECORDS_PER_COMMAND};
+use reference::limits::{COMMANDS, MAP_ADDRESSES, MAP_WORDS, RECORDS_PER_COMMAND};
 
 use crate::buffers::{Name, NAMES};
 use crate::call::{Bytes, Call, Setting, MOST_DATA};
+use crate::maps;
 use crate::words::PER_COMMAND;
 
 /// What a line says.
@@ -108,6 +115,17 @@ fn call(name: &str, rest: &mut Rest) -> Result<Option<Call>, String> {
             data: rest.up_to(MOST_DATA)?,
         },
         "replay" => Call::Replay(rest.bytes()?),
+        _ => return map_call(name, rest),
+    }))
+}
+
+/// The call of the byte map of that name, if there is one.
+fn map_call(name: &str, rest: &mut Rest) -> Result<Option<Call>, String> {
+    Ok(Some(match name {
+        "map-fresh" => Call::MapFresh,
+        "map-begin" => Call::MapBegin,
+        "map-fetch" => Call::MapFetch { span: rest.span()? },
+        "map-end" => Call::MapEnd,
         _ => return Ok(None),
     }))
 }
@@ -133,14 +151,44 @@ fn setting(name: &str, rest: &mut Rest) -> Result<Option<Setting>, String> {
         "entries" => (rest.command()?, 1, rest.entries()?),
         "words" => {
             let (command, place) = (rest.command()?, rest.up_to(PER_COMMAND - 1)?);
-            (command, place, rest.values(PER_COMMAND - place)?)
+            (
+                command,
+                place,
+                rest.values(PER_COMMAND - place, Rest::value)?,
+            )
         }
-        _ => return Ok(None),
+        _ => return map_setting(name, rest),
     };
     Ok(Some(Setting::Words {
         command,
         place,
         values,
+    }))
+}
+
+/// The setting of the byte map of that name, if there is one.
+fn map_setting(name: &str, rest: &mut Rest) -> Result<Option<Setting>, String> {
+    Ok(Some(match name {
+        "map-open" => Setting::MapOpen {
+            value: rest.number()?,
+        },
+        "map-words" => {
+            let place = rest.up_to(MAP_WORDS - 1)?;
+            let values = rest.values(MAP_WORDS - place, Rest::number)?;
+            Setting::MapWords { place, values }
+        }
+        "map-values" => {
+            let place = rest.up_to(MAP_ADDRESSES - 1)?;
+            let values = rest.values(MAP_ADDRESSES - place, Rest::byte)?;
+            Setting::MapValues { place, values }
+        }
+        "map-runs" => {
+            let (count, span, step) = (rest.number()?, rest.span()?, rest.number()?);
+            maps::end_of_runs(count, span.start, span.length, step)
+                .ok_or("the map does not have all of these addresses")?;
+            Setting::MapRuns { count, span, step }
+        }
+        _ => return Ok(None),
     }))
 }
 
@@ -171,6 +219,10 @@ impl<'a> Rest<'a> {
 
     fn value(&mut self) -> Result<u16, String> {
         self.up_to(u16::MAX.into()).map(|number| number as u16)
+    }
+
+    fn byte(&mut self) -> Result<u8, String> {
+        self.up_to(u8::MAX.into()).map(|number| number as u8)
     }
 
     fn span(&mut self) -> Result<Span, String> {
@@ -245,14 +297,18 @@ impl<'a> Rest<'a> {
         Ok(pairs.concat())
     }
 
-    /// At least one word, and not more than there is room for.
-    fn values(&mut self, room: usize) -> Result<Vec<u16>, String> {
-        let mut values = vec![self.value()?];
+    /// At least one value, each read alike, and not more than there is room for.
+    fn values<T>(
+        &mut self,
+        room: usize,
+        read: fn(&mut Self) -> Result<T, String>,
+    ) -> Result<Vec<T>, String> {
+        let mut values = vec![read(self)?];
         while self.0.len() > 0 {
-            values.push(self.value()?);
+            values.push(read(self)?);
         }
         if values.len() > room {
-            return Err(format!("there are {room} words from that place on"));
+            return Err(format!("there are {room} values from that place on"));
         }
         Ok(values)
     }

@@ -12,15 +12,16 @@ const USAGE: &str = "\
 usage: calls [--calls N] [--seed S]
 
 Makes the calls of tests/calls/calls.txt and random ones in the proved library
-and in the reference: the answer, the state's words and every buffer must be
-equal after each. Each status that a call can have must be among the answers
-to the file.
+and in the reference: the answer, the state's words, the byte map and every
+buffer must be equal after each. Each status that a call can have must be among
+the answers to the file.
 
-  --calls N  at least N random calls (40000), in lists of 200
+  --calls N  at least N random calls (60000), in lists of 200 and lists of 100
+             of the byte map, one of each for a seed
   --seed S   seed of the first list; the next one has S + 1 (0)
 
-The list of a seed is always the same. A difference names its list, S, and
-'--calls 1 --seed S' makes the calls of that one again.
+The lists of a seed are always the same. A difference names its list, S, and
+'--calls 1 --seed S' makes the calls of both lists of that seed again.
 
 The last line is 'N passed, M failed', N being calls. Status: 0 if M is 0,
 else 1; 2 if the words are not as above or the file cannot be read.
@@ -50,7 +51,7 @@ fn main() -> ExitCode {
 /// The number of random calls and the first seed; nothing if the words are not
 /// as [`USAGE`] says.
 fn parse(mut words: impl Iterator<Item = String>) -> Option<(u64, u64)> {
-    let (mut calls, mut seed) = (40_000, 0);
+    let (mut calls, mut seed) = (60_000, 0);
     while let Some(word) = words.next() {
         let number = match word.as_str() {
             "--calls" => &mut calls,

@@ -3,8 +3,9 @@
 
 use std::fmt::Display;
 
-use boundary::WORDS;
+use boundary::{ByteMap, WORDS};
 use reference::book::Book;
+use reference::byte_map;
 
 use crate::answer::Answer;
 use crate::buffers::{Buffer, Buffers, Name, NAMES};
@@ -13,6 +14,7 @@ use crate::expected::Expected;
 use crate::file::Item;
 use crate::library::Library;
 use crate::line::Line;
+use crate::maps;
 use crate::tally::Tally;
 use crate::words::{book_of, words_of, PER_COMMAND};
 
@@ -25,16 +27,19 @@ pub struct Pair {
 }
 
 impl Pair {
-    /// The fresh state, and the usual bytes and lengths of all buffers.
+    /// The fresh state, the fresh map, and the usual bytes and lengths of all
+    /// buffers.
     pub fn new(part: &str) -> Pair {
         let buffers = Buffers::usual();
         Pair {
             library: Library {
                 words: [0; WORDS],
+                map: ByteMap::FRESH,
                 buffers: buffers.clone(),
             },
             expected: Expected {
                 book: Book::fresh(),
+                map: byte_map::ByteMap::FRESH,
                 buffers,
             },
             kept: vec![],
@@ -81,6 +86,10 @@ impl Pair {
                 let from = command * PER_COMMAND + place;
                 self.library.words[from..from + values.len()].copy_from_slice(values);
                 self.expected.book = book_of(&self.library.words);
+            }
+            of_the_map => {
+                maps::set(&mut self.library.map, of_the_map);
+                self.expected.map = maps::expected_of(&self.library.map);
             }
         }
     }
@@ -130,12 +139,22 @@ impl Pair {
             difference(&format!("the {}", name.word()), right, found)
         });
         let given = difference("the bytes given", right, found);
-        state.into_iter().chain(buffers).chain(given).next()
+        let state = state.into_iter().chain(self.map_difference());
+        state.chain(buffers).chain(given).next()
+    }
+
+    /// The first place of the byte map in which the sides differ.
+    fn map_difference(&self) -> Option<String> {
+        let (right, found) = (&self.expected.map, &self.library.map);
+        difference("the map's open", &[right.open], &[found.open])
+            .or_else(|| difference("the map's words", &right.words, &found.words))
+            .or_else(|| difference("the map's values", &right.values, &found.values))
     }
 
     /// Gives the library's side what the reference has.
     fn agree_again(&mut self) {
         self.library.words = words_of(&self.expected.book);
+        self.library.map = maps::library_of(&self.expected.map);
         self.library.buffers = self.expected.buffers.clone();
     }
 
@@ -207,6 +226,23 @@ mod tests {
     }
 
     #[test]
+    fn one_changed_part_of_the_map_is_told() {
+        for (part, place) in [("open", 0), ("words", 63), ("values", 4_095)] {
+            let mut pair = after("map-begin = 0\nlend window 64\nmap-fetch 3+4 = 0 4 0");
+            let map = &mut pair.library.map;
+            match part {
+                "open" => map.open ^= 1 << 63,
+                "words" => map.words[place] ^= 1 << 63,
+                _ => map.values[place] ^= 1 << 7,
+            }
+            let told = complaint(&mut pair, "show 0 0");
+            let first = format!("the map's {part} differs first at place {place}: ");
+            assert!(told.contains(&first), "{told}");
+            assert_eq!(complaint(&mut pair, "map-fetch 3+4 = 0 0 4"), "");
+        }
+    }
+
+    #[test]
     fn an_answer_that_the_line_does_not_have_is_told() {
         let mut pair = after("begin 3 = 0");
         let told = complaint(&mut pair, "fetch 3 16+4 = 0 3");
@@ -253,8 +289,9 @@ mod tests {
 
     #[test]
     fn a_tried_list_leaves_all_as_it_was() {
-        let list = "list some\nbegin 1 = 0\nlend store 0\nhost 5+5\nend 0 = 8\ndone";
+        let list = "list some\nbegin 1 = 0\nlend store 0\nhost 5+5\nend 0 = 8\nmap-begin = 0\ndone";
         let pair = after(&format!("{list}\ntry some\ntry some\nbegin 1 = 0"));
+        assert_eq!(pair.library.map, ByteMap::FRESH);
         assert_eq!(pair.library.words[PER_COMMAND], 1);
         let usual = Buffers::usual();
         assert_eq!(pair.library.buffers.window.bytes, usual.window.bytes);

@@ -5,6 +5,7 @@ use std::fmt;
 use compare::workers;
 
 use crate::file::Item;
+use crate::map_lists;
 use crate::pair::Pair;
 use crate::random;
 use crate::tally::Tally;
@@ -34,12 +35,17 @@ pub struct Sums {
     random: Outcome,
 }
 
-/// Makes the calls of the file, and at least so many random ones.
+/// Makes the calls of the file, and at least so many random ones. Each seed has a
+/// list of calls and one of calls of the byte map.
 pub fn run(file: &[Item], calls: u64, seed: u64) -> Sums {
-    let lists = calls.div_ceil(random::CALLS);
-    let of_place = |place: u64| carry_out(&random::list(seed.wrapping_add(place)));
+    let lists = calls.div_ceil(random::CALLS + map_lists::CALLS);
+    let of_place = |place: u64| {
+        let seed = seed.wrapping_add(place);
+        let both = [random::list(seed), map_lists::list(seed)];
+        both.map(|items| carry_out(&items))
+    };
     let mut random = Outcome::default();
-    for outcome in workers::share(lists, of_place) {
+    for outcome in workers::share(lists, of_place).into_iter().flatten() {
         random.tally.add(&outcome.tally);
         random.complaints.extend(outcome.complaints);
     }

@@ -1,11 +1,13 @@
 //! A list of calls and settings from the bytes of an input.
 
-use calls::buffers::NAMES;
+use calls::buffers::{Name, NAMES};
 use calls::call::{Bytes, Call, Setting, MOST_DATA};
 use calls::line::Line;
 use calls::words::PER_COMMAND;
 use reference::book::Span;
-use reference::limits::{BYTES_PER_CALL, COMMANDS, RECORDS_PER_COMMAND, WINDOW_BYTES};
+use reference::limits::{
+    BYTES_PER_CALL, COMMANDS, MAP_ADDRESSES, MAP_WORDS, RECORDS_PER_COMMAND, WINDOW_BYTES,
+};
 
 use crate::input::Input;
 
@@ -26,7 +28,7 @@ pub fn lines(bytes: &[u8]) -> Vec<Line> {
 }
 
 fn line(input: &mut Input) -> Line {
-    let call = match input.byte() % 32 {
+    let call = match input.byte() % 40 {
         0..=3 => Call::Begin {
             command: command(input),
         },
@@ -53,8 +55,24 @@ fn line(input: &mut Input) -> Line {
         27 => Call::Replay(given(input)),
         28 => return Line::Set(lend(input)),
         29..=30 => return Line::Set(words(input)),
-        _ if input.byte() % 2 == 0 => Call::Fresh,
-        _ => Call::Release,
+        31 if input.byte() % 2 == 0 => Call::Fresh,
+        31 => Call::Release,
+        _ => return map_line(input),
+    };
+    Line::Call(call, vec![])
+}
+
+/// A line of the byte map.
+fn map_line(input: &mut Input) -> Line {
+    let call = match input.byte() % 16 {
+        0 => return Line::Set(map_window(input)),
+        1..=2 => return Line::Set(map_part(input)),
+        3..=4 => Call::MapBegin,
+        5 if input.byte() % 8 == 0 => Call::MapFresh,
+        5 => Call::MapEnd,
+        _ => Call::MapFetch {
+            span: map_span(input),
+        },
     };
     Line::Call(call, vec![])
 }
@@ -66,6 +84,14 @@ fn command(input: &mut Input) -> u64 {
 fn span(input: &mut Input) -> Span {
     Span {
         start: input.number(WINDOW_BYTES as u64),
+        length: input.number(BYTES_PER_CALL as u64 + 1),
+    }
+}
+
+/// A span that the byte map may have.
+fn map_span(input: &mut Input) -> Span {
+    Span {
+        start: input.number(MAP_ADDRESSES as u64),
         length: input.number(BYTES_PER_CALL as u64 + 1),
     }
 }
@@ -129,15 +155,59 @@ fn words(input: &mut Input) -> Setting {
     }
 }
 
+/// A window that the calls of the byte map take, or just do not.
+fn map_window(input: &mut Input) -> Setting {
+    let buffer = Name::Window;
+    let length = match input.byte() % 2 {
+        0 => MAP_ADDRESSES,
+        _ => input.up_to(MAP_ADDRESSES as u64, buffer.size()),
+    };
+    Setting::Lend { buffer, length }
+}
+
+/// A part of the byte map: open, a word or a value, or spans that are held.
+fn map_part(input: &mut Input) -> Setting {
+    match input.byte() % 8 {
+        0 => Setting::MapOpen {
+            value: input.number(2),
+        },
+        1 => Setting::MapWords {
+            place: usize::from(input.byte()) % MAP_WORDS,
+            values: vec![input.number(u64::MAX)],
+        },
+        2 => Setting::MapValues {
+            place: usize::from(input.word()) % MAP_ADDRESSES,
+            values: vec![input.byte()],
+        },
+        _ => map_runs(input),
+    }
+}
+
+/// Spans of at most four addresses; the map has them all.
+fn map_runs(input: &mut Input) -> Setting {
+    let step = u64::from(input.byte() % 61);
+    let count = u64::from(input.byte() % 67);
+    let length = u64::from(input.byte() % 5);
+    let room = MAP_ADDRESSES as u64 - count * step - length;
+    let start = input.number(room).min(room);
+    Setting::MapRuns {
+        count,
+        span: Span { start, length },
+        step,
+    }
+}
+
 #[cfg(test)]
 mod tests {
     use super::*;
+    use calls::maps;
 
     #[test]
     fn a_list_ends_with_its_bytes_or_is_full() {
         assert!(lines(&[]).is_empty());
         assert_eq!(lines(&[0]).len(), 1);
         assert_eq!(lines(&[31; 1_000]).len(), LINES);
+        assert_eq!(lines(&[36; 1_000]).len(), LINES);
     }
 
     #[test]
@@ -151,5 +221,25 @@ mod tests {
         let bytes = [0, 0, 3, 4, 0, 3, 0, 64, 0, 9];
         let wanted = [begin, fetch].map(|call| Line::Call(call, vec![]));
         assert_eq!(lines(&bytes), wanted);
+        let fetch = Call::MapFetch { span };
+        let wanted = [Call::MapBegin, fetch, Call::MapEnd].map(|call| Line::Call(call, vec![]));
+        assert_eq!(lines(&[32, 3, 33, 6, 0, 64, 0, 9, 39, 5, 1]), wanted);
+    }
+
+    #[test]
+    fn spans_of_the_map_are_in_it() {
+        let mut most = 0;
+        for byte in 0..=255 {
+            for other in [0, 60, 66, 255] {
+                let bytes = [byte, other, 255 - byte, other, byte, 255];
+                let setting = map_runs(&mut Input(&bytes));
+                let Setting::MapRuns { count, span, step } = setting else {
+                    panic!("{setting}");
+                };
+                let end = maps::end_of_runs(count, span.start, span.length, step);
+                most = most.max(end.expect("addresses of the map"));
+            }
+        }
+        assert!(most > 4_000, "{most}");
     }
 }

@@ -1,0 +1,286 @@
+//! Lists of calls of the byte map get the same answers and leave the same parts
+//! and destinations, on any maps and on windows and destinations of any length.
+//! The plain map without checks makes the calls on maps that hold together. From
+//! the fresh map, the record engine with one command answers and delivers the
+//! same in windows of at most 4,096 bytes.
+
+use boundary::ByteMap;
+use plain::byte_map::{ByteMap as Plain, ADDRESSES, WORDS};
+use sampling::generator::Generator;
+use sampling::spans;
+
+use crate::answer::Answer;
+use crate::call;
+use crate::cases::{Case, Group, Subject};
+use crate::memory::Memory;
+use crate::programs::{Cache, Map, Proved};
+
+/// So many random lists are made of so many calls.
+const LISTS: u64 = 300;
+const CALLS: usize = 200;
+
+/// So many maps are set of which many do not hold together, with so many calls on
+/// each.
+const SET: u64 = 4_000;
+const AFTER: usize = 8;
+
+/// The command that the record engine serves.
+const COMMAND: usize = 5;
+
+/// The call at which something is not the same.
+pub fn difference(cases: &[Case]) -> Option<String> {
+    let of_maps = cases.iter().filter(|case| case.group == Group::Map);
+    of_maps
+        .flat_map(of_case)
+        .next()
+        .or_else(|| (0..LISTS).find_map(from_fresh))
+        .or_else(|| (0..SET).find_map(on_any_map))
+}
+
+/// A call of a byte map.
+#[derive(Clone, Copy, Debug)]
+enum Call {
+    Begin,
+    Fetch { address: usize, length: usize },
+    End,
+}
+
+/// All maps side by side, and the record engine.
+struct Scene {
+    proved: Party<ByteMap>,
+    checked: Party<Plain<true>>,
+    unchecked: Party<Plain<false>>,
+    records: Proved,
+    memory: Memory,
+}
+
+/// A map with its destination.
+struct Party<M> {
+    map: M,
+    destination: Vec<u8>,
+}
+
+impl<M: Map> Party<M> {
+    fn fresh() -> Party<M> {
+        Party {
+            map: M::fresh(),
+            destination: vec![],
+        }
+    }
+
+    fn make(&mut self, window: &[u8], call: Call) -> Answer {
+        match call {
+            Call::Begin => self.map.begin().into(),
+            Call::End => self.map.end().into(),
+            Call::Fetch { address, length } => {
+                let destination = &mut self.destination;
+                self.map.fetch(window, destination, address, length).into()
+            }
+        }
+    }
+}
+
+impl Scene {
+    fn fresh() -> Scene {
+        Scene {
+            proved: Party::fresh(),
+            checked: Party::fresh(),
+            unchecked: Party::fresh(),
+            records: Proved::new(),
+            memory: Memory::sized(ADDRESSES, 0),
+        }
+    }
+
+    /// Lends a window and a destination of these lengths to all. Every byte of the
+    /// window is another with another number.
+    fn lend(&mut self, window: usize, destination: usize, number: u8) {
+        self.memory = Memory::sized(window, destination);
+        self.memory
+            .window
+            .iter_mut()
+            .for_each(|byte| *byte ^= number);
+        for lent in [
+            &mut self.proved.destination,
+            &mut self.checked.destination,
+            &mut self.unchecked.destination,
+        ] {
+            *lent = self.memory.destination.to_vec();
+        }
+    }
+
+    fn set_parts(&mut self, parts: &ByteMap) {
+        self.proved.map.set_parts(parts);
+        self.checked.map.set_parts(parts);
+        self.unchecked.map.set_parts(parts);
+    }
+
+    /// Makes a call on the two maps that check everything, and on the third if
+    /// these do not find the map broken. Answers the same, or tells what is not.
+    fn step(&mut self, call: Call) -> Result<Answer, String> {
+        let window = &self.memory.window;
+        let answer = self.proved.make(window, call);
+        let mut same = self.checked.make(window, call) == answer
+            && self.checked.map.parts() == self.proved.map
+            && self.checked.destination == self.proved.destination;
+        if answer != Answer::Refused(20) {
+            same = same
+                && self.unchecked.make(window, call) == answer
+                && self.unchecked.map.parts() == self.proved.map
+                && self.unchecked.destination == self.proved.destination;
+        }
+        if same {
+            Ok(answer)
+        } else {
+            Err(told(call, answer))
+        }
+    }
+
+    /// The same, and the record engine has to answer and to deliver so too.
+    fn step_beside_records(&mut self, call: Call) -> Result<Answer, String> {
+        let answer = self.step(call)?;
+        let memory = &mut self.memory;
+        let other: Answer = match call {
+            Call::Begin => self.records.begin(COMMAND).into(),
+            Call::End => self.records.end(COMMAND).into(),
+            Call::Fetch { address, length } => {
+                let reply = self.records.fetch(memory, COMMAND, address, length);
+                reply.into()
+            }
+        };
+        if other == answer && memory.destination[..] == self.proved.destination[..] {
+            Ok(answer)
+        } else {
+            Err(told(call, answer))
+        }
+    }
+}
+
+fn told(call: Call, answer: Answer) -> String {
+    format!("{call:?} of the byte map, answered with {answer:?}")
+}
+
+/// The calls of a case, what is measured of them twice.
+fn of_case(case: &Case) -> Option<String> {
+    let Subject::Calls { before, unit } = &case.subject else {
+        return None;
+    };
+    let mut scene = Scene::fresh();
+    scene.lend(ADDRESSES, ADDRESSES, 0);
+    let list = before.iter().chain(unit).chain(unit);
+    list.map(|call| match *call {
+        call::Call::Begin { .. } => Call::Begin,
+        call::Call::End { .. } => Call::End,
+        call::Call::Fetch {
+            address, length, ..
+        } => Call::Fetch { address, length },
+        _ => unreachable!("{call:?} is no call of the byte map"),
+    })
+    .find_map(|call| scene.step_beside_records(call).err())
+}
+
+/// A list from the fresh map in windows that the record engine can be given too.
+fn from_fresh(seed: u64) -> Option<String> {
+    let mut source = Source::new(seed);
+    let mut scene = Scene::fresh();
+    (0..CALLS).find_map(|_| {
+        let window = match source.numbers.below(10) {
+            0 => source.numbers.below(ADDRESSES as u64 + 1) as usize,
+            _ => ADDRESSES,
+        };
+        scene.lend(window, source.room(), source.byte());
+        scene.step_beside_records(source.call()).err()
+    })
+}
+
+/// A map of any parts, and calls on it with windows and destinations of any
+/// length.
+fn on_any_map(seed: u64) -> Option<String> {
+    let mut source = Source::new(seed);
+    let mut scene = Scene::fresh();
+    scene.set_parts(&any_map(&mut source.numbers));
+    (0..AFTER).find_map(|_| {
+        let windows = [ADDRESSES, 0, 300, ADDRESSES + 1, 65_537];
+        let place = source.numbers.below(16) as usize;
+        let window = windows.get(place).unwrap_or(&ADDRESSES);
+        scene.lend(*window, source.room(), source.byte());
+        scene.step(source.call()).err()
+    })
+}
+
+/// A map with about as many runs as there may be, closed one in eight times, and
+/// most often with a value or a word changed.
+fn any_map(numbers: &mut Generator) -> ByteMap {
+    let mut map = ByteMap::FRESH;
+    map.open = numbers.below(8);
+    let (count, step) = (numbers.between(60, 66), numbers.between(2, 62));
+    let length = numbers.between(1, step - 1);
+    for run in 0..if map.open == 0 { 0 } else { count } {
+        for address in run * step..run * step + length {
+            map.words[address as usize / 64] |= 1 << (address % 64);
+            map.values[address as usize] = numbers.below(256) as u8;
+        }
+    }
+    match numbers.below(4) {
+        0 => map.values[numbers.below(ADDRESSES as u64) as usize] = numbers.below(3) as u8,
+        1 => map.words[numbers.below(WORDS as u64) as usize] |= 1 << numbers.below(64),
+        2 => map.words[numbers.below(WORDS as u64) as usize] = 0,
+        _ => {}
+    }
+    map
+}
+
+/// Where calls are drawn from, with one way to choose spans.
+struct Source {
+    numbers: Generator,
+    way: u64,
+}
+
+impl Source {
+    fn new(seed: u64) -> Source {
+        Source {
+            numbers: Generator::new(seed),
+            way: seed % 7,
+        }
+    }
+
+    fn byte(&mut self) -> u8 {
+        self.numbers.below(256) as u8
+    }
+
+    /// The room of a destination, mostly enough.
+    fn room(&mut self) -> usize {
+        match self.numbers.below(20) {
+            0 => self.numbers.below(40) as usize,
+            _ => 4_200,
+        }
+    }
+
+    fn call(&mut self) -> Call {
+        let (address, length) = self.span();
+        match self.numbers.below(40) {
+            0 => Call::End,
+            1..=3 => Call::Begin,
+            _ => Call::Fetch { address, length },
+        }
+    }
+
+    /// A span, a few of them with a senseless address.
+    fn span(&mut self) -> (usize, usize) {
+        let numbers = &mut self.numbers;
+        let addresses = ADDRESSES as u64;
+        let (address, length) = match self.way {
+            0 => spans::any_size(numbers, addresses),
+            1 => spans::touching(numbers, 600),
+            2 => spans::at_the_end(numbers, addresses),
+            3 => spans::overlapping(numbers, 2_000),
+            4 => spans::medium(numbers, addresses),
+            5 => spans::every_other(numbers, 260),
+            _ => spans::small(numbers, 1_500),
+        };
+        let address = match numbers.below(60) {
+            0 => usize::MAX - address as usize,
+            _ => address as usize,
+        };
+        (address, length as usize)
+    }
+}
