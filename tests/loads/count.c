@@ -129,16 +129,18 @@ static void judge(const char *text, bool right, size_t fresh, size_t replayed, u
     size_t astray = tally(destination.loads, destination.to_load, destination.size).other + put.other +
                     tally(store.loads, own_part, store.size).other + tally(store.stores, own_part, store.size).other +
                     tally(values.loads, own_values, values.size).other + tally(values.stores, own_values, values.size).other;
-    bool ok = right && each_once(loaded) && each_once(stored) && kept.never == 0 && valued.never == 0 && put.never == 0 && astray == 0;
+    bool ok = right && each_once(loaded) && each_once(stored) && kept.never == 0 && valued.never == 0 && put.never == 0 &&
+              astray == 0;
     if (ok) passed++;
     else failed++;
     if (ok && text[0] == '-') return;
     printf("%-38s %6u %6zu %8zu | %6zu %6zu %6zu %6zu | %6zu %6zu%s\n", text, status, fresh, replayed, loaded.once, loaded.more,
-           loaded.other, stored.once + stored.more + stored.other, kept.once + kept.more + valued.once + valued.more, astray, ok ? "" : "  FAILED");
+           loaded.other, stored.once + stored.more + stored.other, kept.once + kept.more + valued.once + valued.more, astray,
+           ok ? "" : "  FAILED");
 }
 
 static void heading(void) {
-    printf("%-38s %6s %6s %8s | %-27s | %6s %6s\n", "", "", "", "", "bytes of the window", "store", "");
+    printf("%-38s %6s %6s %8s | %-27s | %6s %6s\n", "", "", "", "", "bytes of the window", "held", "");
     printf("%-38s %6s %6s %8s | %6s %6s %6s %6s | %6s %6s\n", "call", "status", "fresh", "replayed", "once", "more", "other",
            "stored", "loaded", "astray");
 }

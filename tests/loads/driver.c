@@ -9,8 +9,8 @@
  *     map                   it is a call of the byte map: it may touch the values and no part of the store
  *     none                  from here on this command holds nothing
  *     load A N              the window's bytes that it loads, each of them once; the command holds them from here on
- *     deliver A N           it loads the places of the store, or of the values, that have these bytes, and stores to the front of the
- *                           destination
+ *     deliver A N           it loads the places of the store, or of the values, that have these bytes, and stores to the front of
+ *                           the destination
  *     write A N             the window's bytes that it stores, each of them once
  *     reply OK FRESH REPLAYED STATUS    what it replied; OK is 1 if reply and delivered bytes are those of the model
  */
@@ -47,8 +47,8 @@ static uint64_t map_open, map_words[DOORCLOVER_MAP_WORDS];
 static size_t map_window_size = DOORCLOVER_MAP_ADDRESSES;
 
 /*
- * The model: in which turn of a command a byte was fetched, what it was at the first fetch of the turn, and how many there were. The
- * byte map's command stands behind the others.
+ * The model: in which turn of a command a byte was fetched, what it was at the first fetch of the turn, and how many there were.
+ * The byte map's command stands behind the others.
  */
 enum { MAP = DOORCLOVER_COMMANDS, COMMANDS };
 static uint32_t turn[COMMANDS];

@@ -1,7 +1,7 @@
 /*
- * Fetches that are wrong, one for each value of WRONG, and those of the byte map, one for each value of WRONG_MAP; 0 is a right one.
- * The driver's calls are led here (ld --wrap), so that it is seen that the count tells them. All deliver the right bytes and give the
- * right reply.
+ * Fetches that are wrong, one for each value of WRONG, and those of the byte map, one for each value of WRONG_MAP; 0 is a right
+ * one. The driver's calls are led here (ld --wrap), so that it is seen that the count tells them. All deliver the right bytes and
+ * give the right reply.
  */
 #include <stdbool.h>
 #include <stdint.h>
@@ -28,8 +28,8 @@ static void load(const uint8_t *byte) {
 }
 
 /* What is wrong behind a fetch; it may not touch the byte that is astray. */
-static void go_wrong(int wrong, doorclover_fetched r, const uint8_t *window, const uint8_t *destination, size_t address, size_t length,
-                     const uint8_t *astray) {
+static void go_wrong(int wrong, doorclover_fetched r, const uint8_t *window, const uint8_t *destination, size_t address,
+                     size_t length, const uint8_t *astray) {
     bool done = r.status == 0 && length > 0;
     switch (wrong) {
     case 1: /* a fresh byte a second time */
