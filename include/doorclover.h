@@ -15,32 +15,38 @@
  *   state        which commands are open, and the records of each
  *   store        the held bytes; command c has the 4,096 from 4,096 * c on
  *   destination  where a fetch delivers
+ *   map          a byte map: a smaller engine, with one command and no store (see below)
  *
  * What every call promises
  *   - It is done or refused, never half done. Done: the status is DOORCLOVER_OK, and all that is
  *     said of the call has happened. Refused: the status is the lowest number that applies, the
- *     other members of the reply are 0, and no byte of state, store, window, destination or output
- *     has changed. (A journal runs many calls; this holds for each of them.)
+ *     other members of the reply are 0, and no byte of state, store, map, window, destination or
+ *     output has changed. (A journal runs many calls; this holds for each of them. A map's fetch
+ *     judges 30 in the place of 7, and so gives it before 9.)
  *   - Numbers may have any value. What is out of range is refused, and address + length is judged
  *     as the true sum, which does not wrap.
- *   - A state may hold any words and a store any bytes. Words that do not hold together are refused
- *     with DOORCLOVER_STATE_BROKEN by every call that looks at them.
+ *   - A state may hold any words, a store any bytes, and a map any words and bytes. A state's words,
+ *     or a map, that do not hold together are refused with DOORCLOVER_STATE_BROKEN by every call that
+ *     looks at them.
  *   - No call reads or writes outside the lengths it is given, and each returns.
  *   - A call changes nothing that another command holds.
  *   - Nothing is allocated, and there are no globals, no thread-local data and no start-up code. All
  *     memory is the caller's. The archive needs memcpy and memset from the link, and nothing else.
  *
  * What the caller answers for, since C cannot check it
- *   - Each pointer is good for the length beside it, and a state for all its words. A null pointer
- *     may stand where the length is 0, and only there; a state is never null.
+ *   - Each pointer is good for the length beside it, a state for all its words, and the parts of a map
+ *     for one, 64 and 4,096 elements. A null pointer may stand where the length is 0, and only there; a
+ *     state is never null, nor is a part of a map.
  *   - No two arguments of a call share a byte.
- *   - A state is aligned for uint16_t. Bytes may lie anywhere.
+ *   - A state is aligned for uint16_t, and the first two parts of a map are for uint64_t. Bytes may
+ *     lie anywhere.
  *   - Until a call returns, nobody else (another core, an interrupt, a DMA engine) writes what is lent
- *     to it; of the window see below. Two calls on one state or one store must not overlap in time;
- *     calls on different ones may.
+ *     to it; of the window see below. Two calls on one state, one store or one map must not overlap in
+ *     time; calls on different ones may.
  *   - Between calls nobody but these functions writes state and store, and the two stay together: a
- *     replayed byte is the byte in the store. If somebody does write them, the calls stay within
- *     bounds and do what is said of them for the words and bytes that they find.
+ *     replayed byte is the byte in the store. The same holds of the three parts of a map. If somebody
+ *     does write them, the calls stay within bounds and do what is said of them for the words and
+ *     bytes that they find.
  *
  * The window, which the host writes
  *   - Between two calls it may change in any way: that is what the cache is for.
@@ -54,6 +60,7 @@
  *     fresh   0      begin 128      host write  48      frame read   168
  *     show   88      fetch 496      own write  216      frame write   48
  *                    end   176                          journal     3392
+ *     of the byte map: fresh 16, begin 120, fetch 432, end 152
  * DOORCLOVER_STACK and DOORCLOVER_JOURNAL_STACK are these with some room.
  *
  * Targets: archives for x86-64, AArch64 and RISC-V 64 (rv64gc, lp64d), little-endian, ELF, by the
@@ -96,6 +103,9 @@ extern "C" {
 #define DOORCLOVER_STATE_WORDS   1032u  /* words of a state: 8 * 129 */
 #define DOORCLOVER_FRAME_HEAD    5u     /* bytes of a frame before its data */
 
+#define DOORCLOVER_MAP_ADDRESSES 4096u  /* addresses of a byte map, and so its longest window */
+#define DOORCLOVER_MAP_WORDS     64u    /* words of a byte map, with a bit for each address */
+
 /* Stack that is enough for any call but the journal's, and for the journal's. */
 #define DOORCLOVER_STACK         1024u
 #define DOORCLOVER_JOURNAL_STACK 4096u
@@ -119,12 +129,15 @@ enum {
     DOORCLOVER_ADDRESS_TOO_HIGH = 11,  /* frame writer: address above 65,535 */
 
     /* because of the state */
-    DOORCLOVER_STATE_BROKEN         = 20,  /* the words do not hold together */
+    DOORCLOVER_STATE_BROKEN         = 20,  /* the words, or the map, do not hold together */
     DOORCLOVER_COMMAND_NOT_OPEN     = 21,
     DOORCLOVER_COMMAND_ALREADY_OPEN = 22,
     DOORCLOVER_TOO_MANY_BYTES       = 23,  /* the command would hold more than 4,096 bytes */
     DOORCLOVER_TOO_MANY_RECORDS     = 24,  /* it would have more than 64 records after joining */
-    DOORCLOVER_NO_SUCH_RECORD       = 25   /* show: the index is not below the number of records */
+    DOORCLOVER_NO_SUCH_RECORD       = 25,  /* show: the index is not below the number of records */
+
+    /* because of the input, by the byte map alone */
+    DOORCLOVER_WINDOW_BEYOND_MAP = 30  /* window longer than 4,096 */
 };
 
 /* The kinds of a step frame. */
@@ -155,6 +168,28 @@ enum {
 typedef struct doorclover_state {
     uint16_t words[DOORCLOVER_STATE_WORDS];
 } doorclover_state;
+
+/*
+ * The byte map: a plain engine for one command and a window of at most 4,096 bytes, to read and to
+ * compare with. It has neither records nor a store, but for each address a bit and a value:
+ *
+ *     open      0 if the command is closed; any other value if it is open
+ *     words     the byte at address x is held if bit x % 64 of words[x / 64] is set, where bit 0 is the
+ *               lowest
+ *     values    the held byte of each address, and 0 where none is held
+ *
+ * A run of set bits, as long as it can be, stands for a record. A map holds together if no bit is set
+ * unless it is open, the value of each address that is not held is 0, and there are at most 64 runs.
+ * All 4,096 addresses count, whatever window is lent.
+ *
+ * All zero is the fresh map, so that a static one needs no call. There is no padding: a map has 4,616
+ * bytes, aligned as uint64_t, and may be compared, checksummed and kept byte for byte.
+ */
+typedef struct doorclover_map {
+    uint64_t open;
+    uint64_t words[DOORCLOVER_MAP_WORDS];
+    uint8_t values[DOORCLOVER_MAP_ADDRESSES];
+} doorclover_map;
 
 /* Replies. Of a refused call all members but the status are 0. */
 typedef struct doorclover_begun {
@@ -307,6 +342,44 @@ DOORCLOVER_USE_REPLY doorclover_replayed doorclover_journal_replay(
     uint8_t *destination, size_t destination_size,
     uint8_t *output, size_t output_size);
 
+/*
+ * The byte map's calls. A map's parts are lent one by one, as &map.open, map.words, map.values. From
+ * the fresh map on, begins, fetches and ends over windows of at most 4,096 bytes are proved to get the
+ * replies, refusals and delivered bytes that the calls above give one command with a store of the right
+ * length, and the runs of set bits are that command's records.
+ */
+
+/* Makes the fresh map: the command is closed, and nothing is held. */
+void doorclover_map_fresh(uint64_t *open, uint64_t *words, uint8_t *values);
+
+/*
+ * Opens the closed command (open is then 1), and zeroes words and values.
+ * Refused with 20, 22.
+ */
+DOORCLOVER_USE_REPLY doorclover_begun doorclover_map_begin(
+    uint64_t *open, uint64_t *words, uint8_t *values);
+
+/*
+ * Delivers a span into the front of the destination, as doorclover_fetch does. A byte that is held
+ * comes from the values. Any other is read from the window, and is held from now on: its bit is set,
+ * and it is its address's value. Refused with 24 if there would be more than 64 runs. The map has room
+ * for every byte of its window, and so there is no 23.
+ * Refused with 4, 30, 9, 10, 20, 21, 24, the first of them in this order that applies.
+ */
+DOORCLOVER_USE_REPLY doorclover_fetched doorclover_map_fetch(
+    const uint64_t *open, uint64_t *words, uint8_t *values,
+    const uint8_t *window, size_t window_size,
+    uint8_t *destination, size_t destination_size,
+    size_t address, size_t length);
+
+/*
+ * Closes the open command (open is then 0), and zeroes words and values. The reply has the number of
+ * runs as that of records, and the number of set bits as that of bytes.
+ * Refused with 20, 21.
+ */
+DOORCLOVER_USE_REPLY doorclover_ended doorclover_map_end(
+    uint64_t *open, uint64_t *words, uint8_t *values);
+
 #ifdef __cplusplus
 }
 #endif
@@ -328,6 +401,10 @@ DOORCLOVER_ASSERT(DOORCLOVER_STATE_WORDS == DOORCLOVER_COMMANDS * DOORCLOVER_COM
 DOORCLOVER_ASSERT(DOORCLOVER_STORE == DOORCLOVER_COMMANDS * DOORCLOVER_HELD);
 DOORCLOVER_ASSERT(sizeof(doorclover_state) == 2064);
 DOORCLOVER_ASSERT(DOORCLOVER_ALIGN(doorclover_state) == 2);
+DOORCLOVER_ASSERT(DOORCLOVER_MAP_ADDRESSES == 64 * DOORCLOVER_MAP_WORDS);
+DOORCLOVER_ASSERT(sizeof(doorclover_map) == 4616 && offsetof(doorclover_map, open) == 0);
+DOORCLOVER_ASSERT(offsetof(doorclover_map, words) == 8 && offsetof(doorclover_map, values) == 520);
+DOORCLOVER_ASSERT(DOORCLOVER_ALIGN(doorclover_map) == 8);
 DOORCLOVER_ASSERT(sizeof(doorclover_begun) == 4);
 DOORCLOVER_ASSERT(sizeof(doorclover_fetched) == 24 && offsetof(doorclover_fetched, replayed) == 16);
 DOORCLOVER_ASSERT(sizeof(doorclover_ended) == 24 && offsetof(doorclover_ended, bytes) == 16);

@@ -15,9 +15,10 @@ void check(int good, const char *what, const char *file, int line)
 }
 
 /* The refusals that were seen, of each call. */
-enum { CALLS = 8, NUMBERS = 32 };
-static const char *const names[CALLS] = {"begin", "fetch", "end",  "host write",
-                                         "own write", "show", "read", "write"};
+enum { CALLS = 11, NUMBERS = 32 };
+static const char *const names[CALLS] = {"begin",     "fetch",     "end",  "host write",
+                                         "own write", "show",      "read", "write",
+                                         "map begin", "map fetch", "map end"};
 static int seen[CALLS][NUMBERS];
 
 static int *seen_of(const char *call)
@@ -40,8 +41,7 @@ int seen_just(const char *call, const doorclover_status *numbers)
     return 1;
 }
 
-static void turned_away(const char *call, doorclover_status want, doorclover_status status,
-                        size_t others)
+void turned_away(const char *call, doorclover_status want, doorclover_status status, size_t others)
 {
     checks++;
     if (status > 0 && status < NUMBERS)

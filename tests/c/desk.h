@@ -33,6 +33,12 @@ uint16_t *words_of(const desk *d, size_t command);
 /* The byte of the window at an address, as a fresh desk has it. */
 uint8_t host_byte(size_t address);
 
+/*
+ * What a call replied, by its name, against the refusal wanted: the status is that one, the other
+ * members are 0 (others is all of them by a bitwise or), and nothing lent has changed.
+ */
+void turned_away(const char *call, doorclover_status want, doorclover_status status, size_t others);
+
 /* A refusal: the status is the one wanted, all other members are 0, and nothing lent has changed. */
 void begin_refused(const desk *d, doorclover_status want, size_t command);
 void end_refused(const desk *d, doorclover_status want, size_t command);

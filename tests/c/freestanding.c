@@ -53,6 +53,7 @@ static void say_number(size_t n)
 }
 
 static doorclover_state state;
+static doorclover_map map;
 static uint8_t store[DOORCLOVER_STORE], window[16384], list[4096], output[8192];
 
 /* The host changes the count behind the check; the count that is used is the one that was checked. */
@@ -138,6 +139,27 @@ static void journal(void)
     told = r.carried == 7 && r.early == 0 ? 0 : 1;
 }
 
+static void map_fresh(void)
+{
+    doorclover_map_fresh(&map.open, map.words, map.values);
+}
+
+static void map_begin(void)
+{
+    told = doorclover_map_begin(&map.open, map.words, map.values).status;
+}
+
+static void map_fetch(void)
+{
+    told = doorclover_map_fetch(&map.open, map.words, map.values, window, 4096, list, sizeof list, 1,
+                                4095).status;
+}
+
+static void map_end(void)
+{
+    told = doorclover_map_end(&map.open, map.words, map.values).status;
+}
+
 /* A stack of its own. */
 enum { STACK = 16384, PAINT = 0xa5 };
 static _Alignas(16) uint8_t stack[STACK];
@@ -184,6 +206,16 @@ static int hold_some(void)
     return 1;
 }
 
+/* The map has as many runs, each of a byte, in the middle of a word. */
+static int map_some(void)
+{
+    for (size_t i = 0; i < DOORCLOVER_MAP_WORDS; i++)
+        if (doorclover_map_fetch(&map.open, map.words, map.values, window, 4096, list, 1, 64 * i + 33,
+                                 1).fresh != 1)
+            return 0;
+    return 1;
+}
+
 static int stacks(void)
 {
     int good = within("fresh", fresh, DOORCLOVER_STACK);
@@ -197,6 +229,11 @@ static int stacks(void)
     good &= within("frame write", frame_write, DOORCLOVER_STACK);
     good &= within("frame read", frame_read, DOORCLOVER_STACK);
     good &= within("journal replay", journal, DOORCLOVER_JOURNAL_STACK);
+    good &= within("map fresh", map_fresh, DOORCLOVER_STACK);
+    good &= within("map begin", map_begin, DOORCLOVER_STACK);
+    good &= map_some();
+    good &= within("map fetch", map_fetch, DOORCLOVER_STACK);
+    good &= within("map end", map_end, DOORCLOVER_STACK);
     return good;
 }
 

@@ -24,6 +24,11 @@ extern doorclover_framed (*const frame_write_is)(writes, size_t, size_t, size_t,
                                                  reads, size_t);
 extern doorclover_replayed (*const journal_replay_is)(reads, size_t, writes, size_t, writes, size_t,
                                                       writes, size_t, writes, size_t);
+extern void (*const map_fresh_is)(uint64_t *, uint64_t *, writes);
+extern doorclover_begun (*const map_begin_is)(uint64_t *, uint64_t *, writes);
+extern doorclover_fetched (*const map_fetch_is)(const uint64_t *, uint64_t *, writes, reads, size_t,
+                                                writes, size_t, size_t, size_t);
+extern doorclover_ended (*const map_end_is)(uint64_t *, uint64_t *, writes);
 
 uint32_t (*const release_is)(void) = doorclover_release;
 void (*const fresh_is)(state *) = doorclover_fresh;
@@ -41,6 +46,20 @@ doorclover_framed (*const frame_write_is)(writes, size_t, size_t, size_t, size_t
                                           size_t) = doorclover_frame_write;
 doorclover_replayed (*const journal_replay_is)(reads, size_t, writes, size_t, writes, size_t, writes,
                                                size_t, writes, size_t) = doorclover_journal_replay;
+void (*const map_fresh_is)(uint64_t *, uint64_t *, writes) = doorclover_map_fresh;
+doorclover_begun (*const map_begin_is)(uint64_t *, uint64_t *, writes) = doorclover_map_begin;
+doorclover_fetched (*const map_fetch_is)(const uint64_t *, uint64_t *, writes, reads, size_t, writes,
+                                         size_t, size_t, size_t) = doorclover_map_fetch;
+doorclover_ended (*const map_end_is)(uint64_t *, uint64_t *, writes) = doorclover_map_end;
+
+/* Every part of a map has just this type, as the calls take it. */
+extern void part(doorclover_map *m, uint64_t **open, uint64_t (**words)[64], uint8_t (**values)[4096]);
+void part(doorclover_map *m, uint64_t **open, uint64_t (**words)[64], uint8_t (**values)[4096])
+{
+    *open = &m->open;
+    *words = &m->words;
+    *values = &m->values;
+}
 
 /* Every member of a reply has just this type. */
 typedef struct {
@@ -92,6 +111,6 @@ int is_full(doorclover_status status)
     case DOORCLOVER_TOO_MANY_RECORDS:
         return 1;
     default:
-        return status != DOORCLOVER_OK && status > DOORCLOVER_NO_SUCH_RECORD;
+        return status != DOORCLOVER_OK && status > DOORCLOVER_WINDOW_BEYOND_MAP;
     }
 }

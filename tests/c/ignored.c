@@ -2,6 +2,7 @@
 #include "doorclover.h"
 
 static doorclover_state s;
+static doorclover_map m;
 static uint8_t a[8], b[8], c[8], d[8], e[8];
 
 int use(void);
@@ -9,8 +10,8 @@ int use(void)
 {
 #ifdef IGNORED
     CALL;
-    return a[0] + b[0] + c[0] + d[0] + e[0] + s.words[0];
+    return a[0] + b[0] + c[0] + d[0] + e[0] + s.words[0] + m.values[0];
 #else
-    return sizeof(CALL) > 0 ? a[0] + b[0] + c[0] + d[0] + e[0] + s.words[0] : 0;
+    return sizeof(CALL) > 0 ? a[0] + b[0] + c[0] + d[0] + e[0] + s.words[0] + m.values[0] : 0;
 #endif
 }

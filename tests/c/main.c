@@ -14,6 +14,9 @@ static void test_every_refusal_seen(void)
     static const doorclover_status shows[] = {6, 20, 21, 25, 0};
     static const doorclover_status reads[] = {1, 2, 3, 4, 5, 0};
     static const doorclover_status writes[] = {2, 3, 4, 5, 6, 10, 11, 0};
+    static const doorclover_status map_begins[] = {20, 22, 0};
+    static const doorclover_status map_fetches[] = {4, 9, 10, 20, 21, 24, 30, 0};
+    static const doorclover_status map_ends[] = {20, 21, 0};
     CHECK(seen_just("begin", begins));
     CHECK(seen_just("fetch", fetches));
     CHECK(seen_just("end", ends));
@@ -22,6 +25,9 @@ static void test_every_refusal_seen(void)
     CHECK(seen_just("show", shows));
     CHECK(seen_just("read", reads));
     CHECK(seen_just("write", writes));
+    CHECK(seen_just("map begin", map_begins));
+    CHECK(seen_just("map fetch", map_fetches));
+    CHECK(seen_just("map end", map_ends));
 }
 
 typedef struct {
@@ -58,6 +64,21 @@ static const test tests[] = {
     {"journal with a log that is cut", test_journal_cut},
     {"journal with refused and unreadable frames", test_journal_refused},
     {"journal with null pointers", test_journal_nulls},
+    {"map: fresh", test_map_fresh},
+    {"map: what is open", test_map_open},
+    {"map: begin", test_map_begin},
+    {"map: fetch", test_map_fetch},
+    {"map: fetch over the edges of words", test_map_fetch_words},
+    {"map: fetch of held and fresh bytes by turns", test_map_fetch_mixed},
+    {"map: fetch joins runs", test_map_fetch_joins},
+    {"map: fetch refused", test_map_fetch_refused},
+    {"map: fetch of too many runs", test_map_fetch_full},
+    {"map: end", test_map_end},
+    {"map: null pointers with length 0", test_map_nulls},
+    {"map: broken maps", test_broken_maps},
+    {"map: maps at their limits", test_maps_at_their_limits},
+    {"map: two maps side by side", test_maps_side_by_side},
+    {"map: as a command of a state", test_map_as_a_command},
     {"just the listed refusals were seen", test_every_refusal_seen},
 };
 

@@ -36,4 +36,23 @@ void test_journal_cut(void);
 void test_journal_refused(void);
 void test_journal_nulls(void);
 
+/* map.c */
+void test_map_fresh(void);
+void test_map_open(void);
+void test_map_begin(void);
+void test_map_fetch(void);
+void test_map_fetch_words(void);
+void test_map_fetch_mixed(void);
+void test_map_fetch_joins(void);
+void test_map_fetch_refused(void);
+void test_map_fetch_full(void);
+void test_map_end(void);
+void test_map_nulls(void);
+
+/* maps.c */
+void test_broken_maps(void);
+void test_maps_at_their_limits(void);
+void test_maps_side_by_side(void);
+void test_map_as_a_command(void);
+
 #endif

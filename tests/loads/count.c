@@ -10,6 +10,7 @@
 
 #define EDGE 64
 #define COMMANDS 8
+#define MAP COMMANDS /* the byte map's one command */
 #define PART 4096
 #define WINDOW 65536
 
@@ -20,9 +21,10 @@ struct room {
     bool *to_load, *to_store;
 };
 
-static struct room window, store, destination;
-static bool *own_part; /* the bytes of the store that the call may touch */
-static bool held[COMMANDS][WINDOW];
+static struct room window, store, values, destination;
+static bool *own_part;   /* the bytes of the store that the call may touch */
+static bool *own_values; /* and those of the values */
+static bool held[COMMANDS + 1][WINDOW];
 static size_t marker;
 static unsigned passed, failed;
 
@@ -57,6 +59,7 @@ static void furnish(struct room *r, size_t start, size_t size) {
     r->to_load = zeros(size, 1);
     r->to_store = zeros(size, 1);
     if (r == &store) own_part = zeros(size, 1);
+    if (r == &values) own_values = zeros(size, 1);
 }
 
 /* Marks what is lent from a byte on; the edges before and behind are never asked for. */
@@ -90,6 +93,7 @@ static void up_to_marker(FILE *trace, bool counted) {
         if (!counted) continue;
         count(&window, start, size, kind);
         count(&store, start, size, kind);
+        count(&values, start, size, kind);
         count(&destination, start, size, kind);
     }
     stop("the trace ends before the calls do");
@@ -119,22 +123,41 @@ static void judge(const char *text, bool right, size_t fresh, size_t replayed, u
     struct tally loaded = tally(window.loads, window.to_load, window.size);
     struct tally stored = tally(window.stores, window.to_store, window.size);
     struct tally kept = tally(store.loads, store.to_load, store.size);
+    struct tally valued = tally(values.loads, values.to_load, values.size);
     struct tally put = tally(destination.stores, destination.to_store, destination.size);
-    /* loads of the destination, stores behind what is delivered, and another command's part */
+    /* loads of the destination, stores behind what is delivered, another command's part, and values that are not lent */
     size_t astray = tally(destination.loads, destination.to_load, destination.size).other + put.other +
-                    tally(store.loads, own_part, store.size).other + tally(store.stores, own_part, store.size).other;
-    bool ok = right && each_once(loaded) && each_once(stored) && kept.never == 0 && put.never == 0 && astray == 0;
+                    tally(store.loads, own_part, store.size).other + tally(store.stores, own_part, store.size).other +
+                    tally(values.loads, own_values, values.size).other + tally(values.stores, own_values, values.size).other;
+    bool ok = right && each_once(loaded) && each_once(stored) && kept.never == 0 && valued.never == 0 && put.never == 0 &&
+              astray == 0;
     if (ok) passed++;
     else failed++;
     if (ok && text[0] == '-') return;
     printf("%-38s %6u %6zu %8zu | %6zu %6zu %6zu %6zu | %6zu %6zu%s\n", text, status, fresh, replayed, loaded.once, loaded.more,
-           loaded.other, stored.once + stored.more + stored.other, kept.once + kept.more, astray, ok ? "" : "  FAILED");
+           loaded.other, stored.once + stored.more + stored.other, kept.once + kept.more + valued.once + valued.more, astray,
+           ok ? "" : "  FAILED");
 }
 
 static void heading(void) {
-    printf("%-38s %6s %6s %8s | %-27s | %6s %6s\n", "", "", "", "", "bytes of the window", "store", "");
+    printf("%-38s %6s %6s %8s | %-27s | %6s %6s\n", "", "", "", "", "bytes of the window", "held", "");
     printf("%-38s %6s %6s %8s | %6s %6s %6s %6s | %6s %6s\n", "call", "status", "fresh", "replayed", "once", "more", "other",
            "stored", "loaded", "astray");
+}
+
+/* The room of a name. */
+static struct room *named(const char *name) {
+    return name[0] == 'w' ? &window : name[0] == 's' ? &store : name[0] == 'v' ? &values : &destination;
+}
+
+/* A new call, of which nothing is asked as yet. */
+static void forget_all(void) {
+    forget(&window);
+    forget(&store);
+    forget(&values);
+    forget(&destination);
+    memset(own_part, 0, store.size);
+    memset(own_values, 0, values.size);
 }
 
 /* The lines of the report, one call after the other. */
@@ -145,25 +168,26 @@ static void hold_against(FILE *report, FILE *trace) {
     int right;
     while (fgets(line, sizeof line, report)) {
         if (sscanf(line, "room %31s %zu %zu", name, &a, &n) == 3) {
-            furnish(name[0] == 'w' ? &window : name[0] == 's' ? &store : &destination, a, n);
+            furnish(named(name), a, n);
         } else if (sscanf(line, "marker %zu", &a) == 1) {
             marker = a;
         } else if (sscanf(line, "call %127[^\n]", text) == 1) {
-            forget(&window);
-            forget(&store);
-            forget(&destination);
-            memset(own_part, 0, store.size);
+            forget_all();
             up_to_marker(trace, false);
             up_to_marker(trace, true);
         } else if (sscanf(line, "part %zu", &command) == 1) {
             ask(own_part, command * PART, PART);
+        } else if (strcmp(line, "map\n") == 0) {
+            command = MAP;
+            ask(own_values, 0, PART);
         } else if (strcmp(line, "none\n") == 0) {
             memset(held[command], false, WINDOW);
         } else if (sscanf(line, "load %zu %zu", &a, &n) == 2) {
             ask(window.to_load, a, n);
             memset(held[command] + a, true, n);
         } else if (sscanf(line, "deliver %zu %zu", &a, &n) == 2) {
-            ask(store.to_load, place(command, a), n);
+            if (command == MAP) ask(values.to_load, a, n);
+            else ask(store.to_load, place(command, a), n);
             ask(destination.to_store, 0, n);
         } else if (sscanf(line, "write %zu %zu", &a, &n) == 2) {
             ask(window.to_store, a, n);

@@ -6,9 +6,11 @@
  *   marker START            this word is stored to before a call and behind it, and at no other time
  *   call TEXT               a call, in the order of the trace; a text that begins with '-' is a row of the table only if it fails
  *     part C                the command whose part of the store it may touch
+ *     map                   it is a call of the byte map: it may touch the values and no part of the store
  *     none                  from here on this command holds nothing
  *     load A N              the window's bytes that it loads, each of them once; the command holds them from here on
- *     deliver A N           it loads the places of the store that have these bytes, and stores to the front of the destination
+ *     deliver A N           it loads the places of the store, or of the values, that have these bytes, and stores to the front of
+ *                           the destination
  *     write A N             the window's bytes that it stores, each of them once
  *     reply OK FRESH REPLAYED STATUS    what it replied; OK is 1 if reply and delivered bytes are those of the model
  */
@@ -24,9 +26,11 @@
 
 static _Alignas(64) uint8_t window_room[EDGE + DOORCLOVER_WINDOW + EDGE];
 static _Alignas(64) uint8_t store_room[EDGE + DOORCLOVER_STORE + EDGE];
+static _Alignas(64) uint8_t values_room[EDGE + DOORCLOVER_MAP_ADDRESSES + EDGE];
 static _Alignas(64) uint8_t destination_room[EDGE + DESTINATION + EDGE];
 static uint8_t *const window = window_room + EDGE;
 static uint8_t *const store = store_room + EDGE;
+static uint8_t *const values = values_room + EDGE;
 static uint8_t *const destination = destination_room + EDGE;
 static volatile uint32_t marker;
 
@@ -38,11 +42,19 @@ static size_t window_size = DOORCLOVER_WINDOW;
 static size_t destination_size = DESTINATION;
 static uint8_t given[DOORCLOVER_TRANSFER + 1];
 
-/* The model: in which turn of a command a byte was fetched, what it was at the first fetch of the turn, and how many there were. */
-static uint32_t turn[DOORCLOVER_COMMANDS];
-static size_t bytes[DOORCLOVER_COMMANDS];
-static uint32_t fetched[DOORCLOVER_COMMANDS][DOORCLOVER_WINDOW];
-static uint8_t first[DOORCLOVER_COMMANDS][DOORCLOVER_WINDOW];
+/* The byte map, whose values stand in a room of their own, and what its next calls are lent. */
+static uint64_t map_open, map_words[DOORCLOVER_MAP_WORDS];
+static size_t map_window_size = DOORCLOVER_MAP_ADDRESSES;
+
+/*
+ * The model: in which turn of a command a byte was fetched, what it was at the first fetch of the turn, and how many there were.
+ * The byte map's command stands behind the others.
+ */
+enum { MAP = DOORCLOVER_COMMANDS, COMMANDS };
+static uint32_t turn[COMMANDS];
+static size_t bytes[COMMANDS];
+static uint32_t fetched[COMMANDS][DOORCLOVER_WINDOW];
+static uint8_t first[COMMANDS][DOORCLOVER_WINDOW];
 
 /* Has the command hold the span, says which of its bytes are to be loaded, and returns their number. */
 static size_t hold(size_t command, size_t address, size_t length) {
@@ -113,6 +125,48 @@ static void fetch(const char *text, size_t command, size_t address, size_t lengt
 static void refused_fetch(const char *text, uint32_t status, size_t command, size_t address, size_t length) {
     printf("call %s\n", text);
     doorclover_fetched r = call_fetch(command, address, length);
+    reply(r.status == status && r.fresh == 0 && r.replayed == 0, r.fresh, r.replayed, r.status);
+}
+
+static void map_begin(const char *text) {
+    printf("call %s\nmap\nnone\n", text);
+    turn[MAP]++;
+    bytes[MAP] = 0;
+    marker = 1;
+    doorclover_begun r = doorclover_map_begin(&map_open, map_words, values);
+    marker = 0;
+    reply(r.status == 0, 0, 0, r.status);
+}
+
+static void map_end(const char *text) {
+    printf("call %s\nmap\nnone\n", text);
+    marker = 1;
+    doorclover_ended r = doorclover_map_end(&map_open, map_words, values);
+    marker = 0;
+    reply(r.status == 0 && r.bytes == bytes[MAP], 0, 0, r.status);
+}
+
+static doorclover_fetched call_map_fetch(size_t address, size_t length) {
+    marker = 1;
+    doorclover_fetched r = doorclover_map_fetch(
+        &map_open, map_words, values, window, map_window_size, destination, destination_size, address, length);
+    marker = 0;
+    return r;
+}
+
+static void map_fetch(const char *text, size_t address, size_t length) {
+    printf("call %s\nmap\n", text);
+    size_t fresh = hold(MAP, address, length);
+    printf("deliver %zu %zu\n", address, length);
+    for (size_t i = 0; i < length; i++) destination[i] = (uint8_t)~first[MAP][address + i];
+    doorclover_fetched r = call_map_fetch(address, length);
+    bool counts = r.status == 0 && r.fresh == fresh && r.replayed == length - fresh;
+    reply(counts && delivered(MAP, address, length), r.fresh, r.replayed, r.status);
+}
+
+static void refused_map_fetch(const char *text, uint32_t status, size_t address, size_t length) {
+    printf("call %s\nmap\n", text);
+    doorclover_fetched r = call_map_fetch(address, length);
     reply(r.status == status && r.fresh == 0 && r.replayed == 0, r.fresh, r.replayed, r.status);
 }
 
@@ -259,6 +313,73 @@ static void ends(void) {
     end("end 2", 2);
 }
 
+/* Spans of every length, within words of the map and over their edges, fresh and then replayed. */
+static void of_the_map(void) {
+    map_begin("map begin");
+    map_fetch("map fetch 1001+1", 1001, 1);
+    map_fetch("map fetch 1983+3", 1983, 3);
+    map_fetch("map fetch 2005+16", 2005, 16);
+    map_fetch("map fetch 2047+17", 2047, 17);
+    map_fetch("map fetch 2112+64, a whole word", 2112, 64);
+    map_fetch("map fetch 3011+300", 3011, 300);
+    map_fetch("map fetch 0+1, the first byte", 0, 1);
+    map_fetch("map fetch 4079+17, up to the last", 4079, 17);
+    map_fetch("map fetch 500+0", 500, 0);
+    map_fetch("map fetch 4096+0", 4096, 0);
+    change_window(7);
+    map_fetch("map fetch 1001+1 again", 1001, 1);
+    map_fetch("map fetch 1983+3 again", 1983, 3);
+    map_fetch("map fetch 2005+16 again", 2005, 16);
+    map_fetch("map fetch 2047+17 again", 2047, 17);
+    map_fetch("map fetch 2112+64 again", 2112, 64);
+    map_fetch("map fetch 3011+300 again", 3011, 300);
+    map_fetch("map fetch 1975+20, middle held", 1975, 20);
+    map_fetch("map fetch 2000+8, end held", 2000, 8);
+    map_fetch("map fetch 2020+9, front held", 2020, 9);
+    map_fetch("map fetch 2990+400, middle held", 2990, 400);
+    map_fetch("map fetch 0+4096, all", 0, 4096);
+    change_window(8);
+    map_fetch("map fetch 0+4096 again", 0, 4096);
+    map_end("map end");
+    map_begin("map begin");
+    map_fetch("map fetch 0+4096, none held", 0, 4096);
+    map_end("map end");
+}
+
+/* Held and fresh bytes by turns: runs of some bytes with gaps of some bytes, until there is room for no more; then all at once. */
+static void many_runs(const char *text, size_t length, size_t step) {
+    size_t last = 70 + (DOORCLOVER_RECORDS - 1) * step;
+    map_begin("-map begin");
+    for (size_t i = 0; i < DOORCLOVER_RECORDS; i++) map_fetch("-map fetch, a run", 70 + i * step, length);
+    refused_map_fetch("-map fetch 4095+1, too many runs", 24, 4095, 1);
+    change_window(9 + step);
+    map_fetch(text, 70, last + length - 70);
+    map_fetch("map fetch, front and end fresh", 60, last + length - 40);
+    map_end("-map end");
+}
+
+static void refused_by_the_map(void) {
+    refused_map_fetch("map fetch 0+1, not open", 21, 0, 1);
+    map_begin("map begin");
+    map_fetch("map fetch 1001+8", 1001, 8);
+    refused_map_fetch("map fetch 0+4097, too long", 4, 0, 4097);
+    map_window_size = DOORCLOVER_MAP_ADDRESSES + 1;
+    refused_map_fetch("map fetch 0+1, window too long", 30, 0, 1);
+    map_window_size = DOORCLOVER_MAP_ADDRESSES;
+    refused_map_fetch("map fetch 4090+7, outside", 9, 4090, 7);
+    refused_map_fetch("map fetch 2^64-1+2, outside", 9, SIZE_MAX, 2);
+    map_window_size = 1000;
+    refused_map_fetch("map fetch 1001+1, held and outside", 9, 1001, 1);
+    map_window_size = DOORCLOVER_MAP_ADDRESSES;
+    destination_size = 7;
+    refused_map_fetch("map fetch 0+8, no room for it", 10, 0, 8);
+    destination_size = DESTINATION;
+    values[500] = 1;
+    refused_map_fetch("map fetch 0+8, broken map", 20, 0, 8);
+    values[500] = 0;
+    map_end("map end");
+}
+
 /* Some calls of each kind of fetch: enough to tell a wrong one. */
 static void few(void) {
     begin("begin 3", 3);
@@ -267,6 +388,12 @@ static void few(void) {
     fetch("fetch 3 1010+17, front held", 3, 1010, 17);
     refused_fetch("fetch 6 1001+17, not open", 21, 6, 1001, 17);
     end("end 3", 3);
+    map_begin("map begin");
+    map_fetch("map fetch 1001+17", 1001, 17);
+    map_fetch("map fetch 1001+17 again", 1001, 17);
+    map_fetch("map fetch 1010+17, front held", 1010, 17);
+    refused_map_fetch("map fetch 1001+4097, too long", 4, 1001, 4097);
+    map_end("map end");
 }
 
 static void room(const char *name, const uint8_t *start, size_t size) {
@@ -277,11 +404,13 @@ static void room(const char *name, const uint8_t *start, size_t size) {
 int main(int argc, char **argv) {
     room("window", window_room, sizeof window_room);
     room("store", store_room, sizeof store_room);
+    room("values", values_room, sizeof values_room);
     room("destination", destination_room, sizeof destination_room);
     printf("marker %zu\n", (size_t)&marker);
     for (size_t i = 0; i < sizeof given; i++) given[i] = (uint8_t)(7 * i + 1);
     for (size_t i = 0; i < DOORCLOVER_STATE_WORDS; i++) broken.words[i] = 65535;
     doorclover_fresh(&whole);
+    doorclover_map_fresh(&map_open, map_words, values);
     change_window(1);
     if (argc > 1 && strcmp(argv[1], "few") == 0) {
         few();
@@ -293,5 +422,12 @@ int main(int argc, char **argv) {
     refused();
     writes();
     ends();
+    of_the_map();
+    many_runs("map fetch, 1 held and 1 not by turns", 1, 2);
+    many_runs("map fetch, 1 held and 2 not by turns", 1, 3);
+    many_runs("map fetch, 5 held and 2 not by turns", 5, 7);
+    many_runs("map fetch, 37 held and 24 not by turns", 37, 61);
+    many_runs("map fetch, 60 held and 2 not by turns", 60, 62);
+    refused_by_the_map();
     return 0;
 }

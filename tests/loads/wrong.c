@@ -1,6 +1,7 @@
 /*
- * Fetches that are wrong, one for each value of WRONG. The driver's calls are led here (ld --wrap), so that it is seen that the
- * count tells them. All deliver the right bytes and give the right reply.
+ * Fetches that are wrong, one for each value of WRONG, and those of the byte map, one for each value of WRONG_MAP; 0 is a right
+ * one. The driver's calls are led here (ld --wrap), so that it is seen that the count tells them. All deliver the right bytes and
+ * give the right reply.
  */
 #include <stdbool.h>
 #include <stdint.h>
@@ -11,19 +12,26 @@
     doorclover_state *state, uint8_t *store, size_t store_size, const uint8_t *window, size_t window_size, uint8_t *destination, \
         size_t destination_size, size_t command, size_t address, size_t length
 #define GIVEN state, store, store_size, window, window_size, destination, destination_size, command, address, length
+#define MAP_ARGUMENTS                                                                                                 \
+    const uint64_t *open, uint64_t *words, uint8_t *values, const uint8_t *window, size_t window_size, uint8_t *destination, \
+        size_t destination_size, size_t address, size_t length
+#define MAP_GIVEN open, words, values, window, window_size, destination, destination_size, address, length
 
 doorclover_fetched __real_doorclover_fetch(ARGUMENTS);
 doorclover_fetched __wrap_doorclover_fetch(ARGUMENTS);
+doorclover_fetched __real_doorclover_map_fetch(MAP_ARGUMENTS);
+doorclover_fetched __wrap_doorclover_map_fetch(MAP_ARGUMENTS);
 
 /* Loads a byte, and the compiler leaves it in. */
 static void load(const uint8_t *byte) {
     (void)*(const volatile uint8_t *)byte;
 }
 
-doorclover_fetched __wrap_doorclover_fetch(ARGUMENTS) {
-    doorclover_fetched r = __real_doorclover_fetch(GIVEN);
+/* What is wrong behind a fetch; it may not touch the byte that is astray. */
+static void go_wrong(int wrong, doorclover_fetched r, const uint8_t *window, const uint8_t *destination, size_t address,
+                     size_t length, const uint8_t *astray) {
     bool done = r.status == 0 && length > 0;
-    switch (WRONG) {
+    switch (wrong) {
     case 1: /* a fresh byte a second time */
         if (done && r.replayed == 0) load(window + address + length - 1);
         break;
@@ -42,9 +50,20 @@ doorclover_fetched __wrap_doorclover_fetch(ARGUMENTS) {
     case 6: /* a refused fetch */
         if (r.status != 0) load(window);
         break;
-    case 7: /* another command's part of the store */
-        if (done) load(store + (command ^ 1) * DOORCLOVER_HELD);
+    case 7: /* another command's part of the store, or what lies behind the values */
+        if (done) load(astray);
         break;
     }
+}
+
+doorclover_fetched __wrap_doorclover_fetch(ARGUMENTS) {
+    doorclover_fetched r = __real_doorclover_fetch(GIVEN);
+    go_wrong(WRONG, r, window, destination, address, length, store + (command ^ 1) * DOORCLOVER_HELD);
+    return r;
+}
+
+doorclover_fetched __wrap_doorclover_map_fetch(MAP_ARGUMENTS) {
+    doorclover_fetched r = __real_doorclover_map_fetch(MAP_GIVEN);
+    go_wrong(WRONG_MAP, r, window, destination, address, length, values + DOORCLOVER_MAP_ADDRESSES);
     return r;
 }

@@ -1,7 +1,7 @@
 /*
- * A program without a C library that links the archive: a retire list whose count the host changes after it was checked, and then
- * calls of all kinds with made numbers, of which every answer and every buffer goes into a sum. The sums are the same on every
- * target. Its status is 0 if the bytes and the replies of the first part are right.
+ * A program without a C library that links the archive: a retire list whose count the host changes after it was checked, the same
+ * with the byte map, and then calls of all kinds with made numbers, of which every answer and every buffer goes into a sum. The sums
+ * are the same on every target. Its status is 0 if the bytes and the replies of the first part are right.
  */
 #include "doorclover.h"
 #include "machine.h"
@@ -9,6 +9,7 @@
 #define MADE_CALLS 20000
 
 static doorclover_state state;
+static doorclover_map map;
 static uint8_t store[DOORCLOVER_STORE], window[16384], destination[DOORCLOVER_TRANSFER], output[32768], bytes[DOORCLOVER_TRANSFER];
 static unsigned wrong;
 
@@ -39,6 +40,25 @@ static void retire_list(void) {
     check(e.status == 0 && e.records == 1 && e.bytes == 8, "end");
     r = doorclover_fetch(&state, store, sizeof store, window, sizeof window, destination, sizeof destination, 3, 101, 4);
     check(r.status == DOORCLOVER_COMMAND_NOT_OPEN && r.fresh == 0 && r.replayed == 0, "fetch after the end");
+}
+
+/* The host changes the bytes between two fetches of the byte map, over the edge of a word. */
+static void byte_map(void) {
+    doorclover_map_fresh(&map.open, map.words, map.values);
+    check(doorclover_map_begin(&map.open, map.words, map.values).status == 0 && map.open == 1, "begin of the map");
+    window[62] = 4;
+    doorclover_fetched r =
+        doorclover_map_fetch(&map.open, map.words, map.values, window, 4096, destination, sizeof destination, 62, 4);
+    check(r.status == 0 && r.fresh == 4 && r.replayed == 0 && destination[0] == 4, "first fetch of the map");
+    window[62] = 40;
+    r = doorclover_map_fetch(&map.open, map.words, map.values, window, 4096, destination, sizeof destination, 60, 8);
+    check(r.status == 0 && r.fresh == 4 && r.replayed == 4 && destination[2] == 4, "second fetch of the map");
+    check(map.words[0] == (uint64_t)15 << 60 && map.words[1] == 15 && map.values[62] == 4, "the map");
+    r = doorclover_map_fetch(&map.open, map.words, map.values, window, 4097, destination, sizeof destination, 4097, 1);
+    check(r.status == DOORCLOVER_WINDOW_BEYOND_MAP && r.fresh == 0 && r.replayed == 0, "fetch of the map with a longer window");
+    doorclover_ended e = doorclover_map_end(&map.open, map.words, map.values);
+    check(e.status == 0 && e.records == 1 && e.bytes == 8, "end of the map");
+    check(map.open == 0 && map.words[0] == 0 && map.words[1] == 0 && map.values[62] == 0, "the map after its end");
 }
 
 /* The worked example of the log. */
@@ -114,9 +134,37 @@ static void frame(size_t command, size_t address, size_t length) {
     add_number(s.taken);
 }
 
+static void map_fetch(size_t address, size_t length) {
+    size_t room = made(30) == 0 ? made(sizeof destination) : sizeof destination;
+    size_t size = made(20) == 0 ? 4090 + made(9) : 4096;
+    doorclover_fetched r =
+        doorclover_map_fetch(&map.open, map.words, map.values, window, size, destination, room, address, length);
+    add_number(r.status);
+    add_number(r.fresh);
+    add_number(r.replayed);
+}
+
+/* Half of the fetches are of few bytes anywhere, so that there come to be many runs. */
+static void map_call(size_t address, size_t length) {
+    size_t kind = made(120);
+    if (kind < 6) {
+        add_number(doorclover_map_begin(&map.open, map.words, map.values).status);
+    } else if (kind == 6) {
+        doorclover_ended r = doorclover_map_end(&map.open, map.words, map.values);
+        add_number(r.status);
+        add_number(r.records);
+        add_number(r.bytes);
+    } else if (kind % 2 == 0) {
+        map_fetch(made(4096), made(3));
+    } else {
+        map_fetch(address, length);
+    }
+    add(&map, sizeof map);
+}
+
 static void made_call(void) {
     size_t command = made(40) == 0 ? 8 + made(3) : made(3), address = made_address(), length = made_length();
-    switch (made(12)) {
+    switch (made(15)) {
     case 0: {
         add_number(doorclover_begin(&state, store, sizeof store - (made(30) == 0), command).status);
         break;
@@ -138,6 +186,9 @@ static void made_call(void) {
     }
     case 3: frame(command, address, length); break;
     case 4: write(command, address, length); break;
+    case 5:
+    case 6:
+    case 7: map_call(address, length); break;
     default: fetch(command, address, length);
     }
 }
@@ -156,10 +207,24 @@ static void broken_call(void) {
     *word = was;
 }
 
+/* The same of the byte map: a value is changed, and a bit. */
+static void broken_map_call(void) {
+    size_t address = made(DOORCLOVER_MAP_ADDRESSES);
+    doorclover_map was = map;
+    map.values[address] = (uint8_t)made(256);
+    map.words[made(DOORCLOVER_MAP_WORDS)] ^= (uint64_t)made(2) << made(64);
+    doorclover_map kept = map;
+    map_fetch(made_address(), 0);
+    for (size_t i = 0; i < sizeof kept; i++)
+        check(((const uint8_t *)&kept)[i] == ((const uint8_t *)&map)[i], "a map that was not to change");
+    map = was;
+}
+
 static void made_calls(void) {
     doorclover_fresh(&state);
     for (size_t n = 1; n <= MADE_CALLS; n++) {
         if (made(25) == 0) broken_call();
+        else if (made(25) == 0) broken_map_call();
         else made_call();
         add(&state, sizeof state);
         add(destination, 64);
@@ -178,6 +243,7 @@ static void made_calls(void) {
 
 int run(void) {
     retire_list();
+    byte_map();
     journal();
     made_calls();
     put(wrong == 0 ? "right\n" : "WRONG\n");

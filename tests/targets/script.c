@@ -1,7 +1,7 @@
 /*
  * Carries out the script of direct calls, tests/calls/calls.txt, which says at its head what its lines mean, from standard input. It
- * prints the answer of each call and a sum of the state and of each buffer after it, the same on every target. (tests/calls holds the
- * same calls against the reference.) The status is 0 if each answer begins with the numbers that the script has for it.
+ * prints the answer of each call and a sum of the state, the byte map and each buffer after it, the same on every target. (tests/calls
+ * holds the same calls against the reference.) The status is 0 if each answer begins with the numbers that the script has for it.
  */
 #include <inttypes.h>
 #include <stdbool.h>
@@ -23,6 +23,7 @@ static const size_t usual[BUFFERS] = {32768, 65536, 4200, 4200};
 /* What the calls are made on. */
 struct ground {
     doorclover_state state;
+    doorclover_map map;
     uint8_t bytes[BUFFERS][131073];
     size_t lent[BUFFERS];
 };
@@ -57,6 +58,7 @@ static uint64_t sum(const void *bytes, size_t size) {
 
 static void usual_ground(void) {
     doorclover_fresh(&ground.state);
+    doorclover_map_fresh(&ground.map.open, ground.map.words, ground.map.values);
     for (size_t b = 0; b < BUFFERS; b++) {
         make_bytes(ground.bytes[b], sizes[b], b);
         ground.lent[b] = usual[b];
@@ -109,6 +111,32 @@ static size_t buffer(void) {
     return 0;
 }
 
+/* A line that sets a part of the byte map. */
+static bool map_setting(void) {
+    const char *name = words[0];
+    doorclover_map *map = &ground.map;
+    uint64_t a, n;
+    if (strcmp(name, "map-open") == 0) {
+        map->open = number();
+    } else if (strcmp(name, "map-words") == 0) {
+        for (uint64_t *to = map->words + number(); more_words();) *to++ = number();
+    } else if (strcmp(name, "map-values") == 0) {
+        for (uint8_t *to = map->values + number(); more_words();) *to++ = (uint8_t)number();
+    } else if (strcmp(name, "map-runs") == 0) {
+        uint64_t count = number();
+        span(&a, &n);
+        uint64_t step = number();
+        for (uint64_t k = 0; k < count; k++)
+            for (uint64_t x = a + k * step; x < a + k * step + n; x++) {
+                map->words[x / 64] |= (uint64_t)1 << x % 64;
+                map->values[x] = (uint8_t)(1 + x % 255);
+            }
+    } else {
+        return false;
+    }
+    return true;
+}
+
 /* A line that only sets what the next calls are made with. */
 static bool setting(void) {
     const char *name = words[0];
@@ -124,7 +152,7 @@ static bool setting(void) {
         return true;
     }
     bool all = strcmp(name, "command") == 0, one = strcmp(name, "entry") == 0, some = strcmp(name, "entries") == 0;
-    if (!all && !one && !some && strcmp(name, "words") != 0) return false;
+    if (!all && !one && !some && strcmp(name, "words") != 0) return map_setting();
     uint16_t *to = ground.state.words + DOORCLOVER_COMMAND_WORDS * number();
     uint64_t first = number();
     if (all) {
@@ -155,6 +183,28 @@ static bool setting(void) {
         memcpy(answer, numbers, sizeof numbers); \
         return sizeof numbers / sizeof *numbers; \
     } while (0)
+
+/* Makes the call of the line if it is one of the byte map, and returns how many numbers its answer has; else -1. */
+static int map_call(uint64_t *answer) {
+    const char *name = words[0];
+    doorclover_map *map = &ground.map;
+    uint64_t a, n;
+    if (strcmp(name, "map-fresh") == 0) {
+        doorclover_map_fresh(&map->open, map->words, map->values);
+        return 0;
+    }
+    if (strcmp(name, "map-begin") == 0) ANSWER(doorclover_map_begin(&map->open, map->words, map->values).status);
+    if (strcmp(name, "map-end") == 0) {
+        doorclover_ended r = doorclover_map_end(&map->open, map->words, map->values);
+        ANSWER(r.status, r.records, r.bytes);
+    }
+    if (strcmp(name, "map-fetch") == 0) {
+        span(&a, &n);
+        doorclover_fetched r = doorclover_map_fetch(&map->open, map->words, map->values, LENT(WINDOW), LENT(DESTINATION), a, n);
+        ANSWER(r.status, r.fresh, r.replayed);
+    }
+    return -1;
+}
 
 /* Makes the call of the line and returns how many numbers its answer has, or -1 if it is no call. */
 static int call(uint64_t *answer, uint64_t seed) {
@@ -190,6 +240,7 @@ static int call(uint64_t *answer, uint64_t seed) {
         doorclover_framed r = doorclover_frame_write(LENT(OUTPUT), kind, c, a, n, data, size);
         ANSWER(r.status, r.length);
     }
+    if (strncmp(name, "map-", 4) == 0) return map_call(answer);
     c = number();
     if (strcmp(name, "begin") == 0) ANSWER(doorclover_begin(state, LENT(STORE), c).status);
     if (strcmp(name, "end") == 0) {
@@ -224,7 +275,7 @@ static void report(size_t line, const uint64_t *answer, int count, const uint64_
     for (size_t i = 0; right && i < wanted_count; i++) right = answer[i] == wanted[i];
     printf("line %zu %s:", line, words[0]);
     for (int i = 0; i < count; i++) printf(" %" PRIu64, answer[i]);
-    printf(" | %016" PRIx64, sum(&ground.state, sizeof ground.state));
+    printf(" | %016" PRIx64 " %016" PRIx64, sum(&ground.state, sizeof ground.state), sum(&ground.map, sizeof ground.map));
     for (size_t b = 0; b < BUFFERS; b++) printf(" %016" PRIx64, sum(ground.bytes[b], sizes[b]));
     printf("%s\n", right ? "" : " WRONG");
     calls++;
