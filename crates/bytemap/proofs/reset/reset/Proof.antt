@@ -12,7 +12,9 @@ returns : tie.Need-returns
 returns c =
     let s = c .before .before .before .before .before .before .before .before .before .before in
     let zeros : (n : ℕ) → List ℕ = λ n. replicate n 0 in
-    ap₂ (mapOf (s .args .to)) (c .before .before .before .before .before .before .clear .ensures ∙ ap zeros (s .pre .0)) (c .before .before .clear2 .ensures ∙ ap zeros (s .pre .1))
+    let words = c .before .before .before .before .before .before .clear in
+    let values = c .before .before .clear2 in
+    ap₂ (mapOf (s .args .to)) (words .ensures ∙ ap zeros (s .pre .0)) (values .ensures ∙ ap zeros (s .pre .1))
 
 pub reset-spec : {M : Type 1} → statement M
 reset-spec = tie.close (tie.spec (λ c κs. search needs) (λ c κs. search needs) (λ c. search needs) (λ c. search needs) returns)
