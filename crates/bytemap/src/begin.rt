@@ -15,7 +15,8 @@ fn judge(flag: u64, words: &[u64], values: &[u8]) -> BeginAnswer
     requires { ⌜ (length (now words) ≡ wordLimit) × (length (now values) ≡ mapLimit) ⌝ }
     ensures { λ r. ⌜ beginReply r ≡ beginSays (mapOf flag (now (words .entry)) (now (values .entry))) ⌝ }
 {
-    if !holds(flag, words, values) {
+    let runs = bits::runs(words);
+    if !holds(flag, words, values, runs) {
         return BeginAnswer::Refused(Refusal::StateBroken);
     }
     if flag != 0 {

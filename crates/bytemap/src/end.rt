@@ -15,14 +15,15 @@ fn judge(flag: u64, words: &[u64], values: &[u8]) -> EndAnswer
     requires { ⌜ (length (now words) ≡ wordLimit) × (length (now values) ≡ mapLimit) ⌝ }
     ensures { λ r. ⌜ endReply r ≡ endSays (mapOf flag (now (words .entry)) (now (values .entry))) ⌝ }
 {
-    if !holds(flag, words, values) {
+    let runs = bits::runs(words);
+    if !holds(flag, words, values, runs) {
         return EndAnswer::Refused(Refusal::StateBroken);
     }
     if flag == 0 {
         return EndAnswer::Refused(Refusal::CommandNotOpen);
     }
     EndAnswer::Done {
-        records: bits::runs(words),
+        records: runs,
         bytes: bits::ones(words),
     }
 }

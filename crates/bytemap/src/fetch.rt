@@ -1,8 +1,14 @@
 // Fetch: a span is delivered to the destination. What of it was not held before is read from the window, and is held from then on.
 ghost use mathlib.Core.Path.{_≡_};
+ghost use mathlib.Core.Bool.{_||_};
+ghost use Prim.Native.Nat.{_+_, _≤_};
+ghost use lib.Dec.{leb};
 ghost use lib.ListN.{length};
+ghost use Rattle.state.specs.Limits.{recordLimit};
+ghost use Rattle.state.specs.Records.{inSpan};
+ghost use Rattle.state.specs.Runs.{runsFrom};
 ghost use Rattle.state.specs.Answers.{fetchReply};
-ghost use Rattle.bits.specs.Bits.{wordLimit, mapLimit};
+ghost use Rattle.bits.specs.Bits.{wordLimit, mapLimit, isSet};
 ghost use Rattle.bytemap.specs.Map.{mapOf};
 ghost use Rattle.bytemap.specs.Fetch.{fetchSays, Fetches};
 ghost use Rattle.bytemap.specs.Delivery.{Fits, Delivers};
@@ -13,6 +19,17 @@ use state::FetchAnswer;
 use state::Refusal;
 use state::range;
 use stretches::take::take;
+
+// Whether there are at most 64 runs with the span too. It adds one at most, so that only a map that has 64 is counted again.
+fn has_room(words: &[u64], runs: usize, address: usize, size: usize) -> bool
+    requires { ⌜ (length (now words) ≡ wordLimit) × (runs ≡ length (runsFrom (isSet (now words)) 0 mapLimit)) × (address + size ≤ mapLimit) ⌝ }
+    ensures { λ r. ⌜ r ≡ leb (length (runsFrom (λ x. isSet (now (words .entry)) x || inSpan address size x) 0 mapLimit)) recordLimit ⌝ }
+{
+    if runs < CacheState::RECORDS {
+        return true;
+    }
+    bits::runs_with(words, address, address + size) <= CacheState::RECORDS
+}
 
 fn judge(
     flag: u64,
@@ -38,13 +55,14 @@ fn judge(
     if room < size {
         return FetchAnswer::Refused(Refusal::BufferTooShort);
     }
-    if !holds(flag, words, values) {
+    let runs = bits::runs(words);
+    if !holds(flag, words, values, runs) {
         return FetchAnswer::Refused(Refusal::StateBroken);
     }
     if flag == 0 {
         return FetchAnswer::Refused(Refusal::CommandNotOpen);
     }
-    if CacheState::RECORDS < bits::runs_with(words, address, address + size) {
+    if !has_room(words, runs, address, size) {
         return FetchAnswer::Refused(Refusal::TooManyRecords);
     }
     let replayed = bits::count_span(words, address, address + size);

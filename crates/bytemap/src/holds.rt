@@ -4,7 +4,8 @@ ghost use mathlib.Core.Bool.{_||_};
 ghost use lib.Dec.{ltb};
 ghost use lib.ListN.{length};
 ghost use Rattle.octets.specs.Lists.{allZero};
-ghost use Rattle.bits.specs.Bits.{wordLimit, mapLimit};
+ghost use Rattle.state.specs.Runs.{runsFrom};
+ghost use Rattle.bits.specs.Bits.{wordLimit, mapLimit, isSet};
 ghost use Rattle.bytemap.specs.Map.{mapOf, holds};
 use state::CacheState;
 use stretches::clean::clean;
@@ -19,8 +20,9 @@ fn open_or_empty(flag: u64, words: &[u64]) -> bool
     bits::all_zero(words)
 }
 
-pub(crate) fn holds(flag: u64, words: &[u64], values: &[u8]) -> bool
-    requires { ⌜ (length (now words) ≡ wordLimit) × (length (now values) ≡ mapLimit) ⌝ }
+// With the number of runs, which the calls need too.
+pub(crate) fn holds(flag: u64, words: &[u64], values: &[u8], runs: usize) -> bool
+    requires { ⌜ (length (now words) ≡ wordLimit) × (length (now values) ≡ mapLimit) × (runs ≡ length (runsFrom (isSet (now words)) 0 mapLimit)) ⌝ }
     ensures { λ r. ⌜ r ≡ holds (mapOf flag (now (words .entry)) (now (values .entry))) ⌝ }
 {
     if !open_or_empty(flag, words) {
@@ -29,5 +31,5 @@ pub(crate) fn holds(flag: u64, words: &[u64], values: &[u8]) -> bool
     if !clean(words, values) {
         return false;
     }
-    bits::runs(words) <= CacheState::RECORDS
+    runs <= CacheState::RECORDS
 }

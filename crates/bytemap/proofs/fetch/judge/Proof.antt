@@ -3,7 +3,7 @@ use Prim.Native.Nat.{ℕ, _+_, _-_, _≤_}
 use native.Mathlib.Omega.{arith}
 use mathlib.Core.Path.{_≡_, ap, sym, _∙_}
 use mathlib.Core.List.{List, [], _∷_}
-use mathlib.Core.Bool.{true, false}
+use mathlib.Core.Bool.{true, false, not}
 use lib.Dec.{ltb}
 use lib.ListN.{length, drop}
 use borrow.Author.Needs.{needs}
@@ -14,7 +14,7 @@ use Rattle.state.specs.Verdict.{Reply, Check, replied, verdict}
 use Rattle.bits.specs.Bits.{mapLimit}
 use Rattle.bytemap.specs.Map.{Map, mapOf, isHeld, holds}
 use Rattle.bytemap.specs.Fetch.{runsThen, freshCount, replayedCount, fetchChecks, fetchSays}
-use Rattle.bytemap.proofs.Counting.{other-count}
+use Rattle.bytemap.proofs.Counting.{other-count, more-than}
 use Rattle.bytemap.proofs.fetch.judge.Statement.{statement}
 use Rattle.bytemap.proofs.fetch.judge.Tie as tie
 
@@ -55,12 +55,12 @@ module _ (c : tie.Else4) where
   unfolding verdict
   past-four = past-two small ∙ rw (inside (c .before), le-ltb (entered small .args .room) (entered small .args .size) (omega arith))
 
-whole : (c : tie.Else5) → holds (lent (entered (small (c .before .before)))) ≡ true
+whole : (c : tie.Else5) → holds (lent (entered (small (c .before .before .before)))) ≡ true
 whole c = sym (c .before .holds .ensures) ∙ not-false _ (c .if5 .left)
 
 module _ (c : tie.Else6) where
   abbrev roomy : tie.Else4
-  roomy = c .before .before .before
+  roomy = c .before .before .before .before
 
   abbrev start : tie.Start
   start = entered (small roomy)
@@ -92,25 +92,24 @@ returns-4 c =
 
 returns-5 : tie.Need-returns-5
 unfolding fetchSays verdict
-returns-5 c = sym (past-four (c .before .before) ∙ rw (sym (c .before .holds .ensures) ∙ not-true _ (c .if5 .taken)))
+returns-5 c = sym (past-four (c .before .before .before) ∙ rw (sym (c .before .holds .ensures) ∙ not-true _ (c .if5 .taken)))
 
 returns-6 : tie.Need-returns-6
 unfolding fetchSays verdict
 returns-6 c =
-    let s = entered (small (c .before .before .before)) in
-    sym (past-four (c .before .before .before) ∙ rw (whole (c .before), le-ltb 0 (s .args .flag) (omega arith)))
+    let s = entered (small (c .before .before .before .before)) in
+    sym (past-four (c .before .before .before .before) ∙ rw (whole (c .before), le-ltb 0 (s .args .flag) (omega arith)))
 
--- the span's end less its start is its length
-count-with : (c : tie.After-runs-with) → let s = start (c .before) in c .runs-with .result ≡ length (runsThen (lent s) (s .args .address) (s .args .size))
-count-with c =
+-- the runs with the span are too many just if there is no room
+full : (c : tie.After-has-room) → let s = start (c .before) in
+    ltb recordLimit (length (runsThen (lent s) (s .args .address) (s .args .size))) ≡ not (c .has-room .result)
+full c =
     let s = start (c .before) in
-    let size : s .args .address + s .args .size - s .args .address ≡ s .args .size = omega arith in
-    c .runs-with .ensures ∙ ap (λ (n : ℕ). length (runsThen (lent s) (s .args .address) n)) size
+    more-than recordLimit (length (runsThen (lent s) (s .args .address) (s .args .size))) ∙ ap not (sym (c .has-room .ensures))
 
 returns-7 : tie.Need-returns-7
 unfolding fetchSays verdict
-returns-7 c =
-    sym (past-six (c .before .before) ∙ rw (sym (count-with (c .before)), lt-ltb recordLimit (c .before .runs-with .result) (omega arith)))
+returns-7 c = sym (past-six (c .before .before) ∙ rw (full (c .before) ∙ ap not (not-true (c .before .has-room .result) (c .if7 .taken))))
 
 -- the two counts
 module _ (c : tie.After-count-span) where
@@ -130,8 +129,7 @@ returns-8 : tie.Need-returns-8
 unfolding fetchSays verdict
 returns-8 c =
     let w = c .before .before in
-    sym (past-six (w .before)
-    ∙ rw (sym (count-with w), le-ltb recordLimit (w .runs-with .result) (omega arith), fresh-is c .0, replayed-is c))
+    sym (past-six (w .before) ∙ rw (full w ∙ ap not (not-false (w .has-room .result) (c .before .if7 .left)), fresh-is c .0, replayed-is c))
 
 pub judge-spec : {M : Type 1} → statement M
 judge-spec =
@@ -143,10 +141,10 @@ judge-spec =
     returns-3
     returns-4
     (λ c κs. search needs)
+    (λ c κs. search needs)
     returns-5
     returns-6
-    (λ c. omega (arith, fits c))
-    (λ c κs. (start c .pre .0, omega arith, fits c))
+    (λ c κs. (start c .pre .0, c .before .before .before .runs .ensures, fits c))
     returns-7
     (λ c. omega (arith, fits (c .before .before)))
     (λ c κs. (start (c .before .before) .pre .0, omega arith, fits (c .before .before)))

@@ -19,13 +19,12 @@ returns-2 c =
 returns-3 : tie.Need-returns-3
 unfolding holds
 returns-3 c =
-    let neat = c .before in
-    let whole = neat .before .before in
+    let whole = c .before .before in
     rw (
       sym (whole .before .open-or-empty .ensures) ∙ not-false _ (whole .if1 .left),
-      sym (neat .before .clean .ensures) ∙ not-false _ (neat .if2 .left),
-      c .runs .ensures,
+      sym (c .before .clean .ensures) ∙ not-false _ (c .if2 .left),
+      whole .before .before .before .before .pre .2,
     )
 
 pub holds-spec : {M : Type 1} → statement M
-holds-spec = tie.close (tie.spec (λ c κs. search needs) returns (λ c κs. search needs) returns-2 (λ c κs. search needs) returns-3)
+holds-spec = tie.close (tie.spec (λ c κs. search needs) returns (λ c κs. search needs) returns-2 returns-3)
