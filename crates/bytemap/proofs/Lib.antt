@@ -1,3 +1,3 @@
 pub mod Counting
-pub mod Accepted
+pub mod Fitting
 pub mod Claims

@@ -10,7 +10,7 @@ use Rattle.state.proofs.Verdict.{says-of}
 use Rattle.bytemap.specs.Map.{Map, mapOf}
 use Rattle.bytemap.specs.Fetch.{fetchSays, fetchMap, fetchDest}
 use Rattle.bytemap.specs.Delivery.{Fits}
-use Rattle.bytemap.proofs.Accepted.{fetched}
+use Rattle.bytemap.proofs.Fitting.{fetched}
 use Rattle.bytemap.proofs.fetch.fetch_words.Statement.{statement}
 use Rattle.bytemap.proofs.fetch.fetch_words.Tie as tie
 
