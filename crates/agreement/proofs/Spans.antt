@@ -23,19 +23,9 @@ all-pass test (x ∷ xs) h = rw (h x) (all-pass test xs h)
 
 -- Counts
 
--- an element passes or it does not
-count-both : (test : ℕ → Bool) (xs : List ℕ) → count test xs + count (λ x. not (test x)) xs ≡ length xs
-unfolding count
-count-both test [] = refl
-count-both test (x ∷ xs) = go (test x) (count test xs) (count (λ y. not (test y)) xs) (count-both test xs)
-  where
-    go : (b : Bool) (k l : ℕ) → k + l ≡ length xs → cond b 1 0 + k + (cond (not b) 1 0 + l) ≡ suc (length xs)
-    go true k l e = omega arith
-    go false k l e = omega arith
-
 -- a span within another: as many of it pass at most
-count-within : (test : ℕ → Bool) (a n k : ℕ) → a + n ≤ k → count test (span a n) ≤ count test (span 0 k)
-count-within test a n k fits =
+count-part : (test : ℕ → Bool) (a n k : ℕ) → a + n ≤ k → count test (span a n) ≤ count test (span 0 k)
+count-part test a n k fits =
     let rest = k - (a + n) in
     let whole : a + n + rest ≡ k = omega arith in
     omega (
@@ -48,7 +38,7 @@ count-within test a n k fits =
 
 -- those that pass among the first k addresses and those of a span within them that do not are no more than k
 pub count-room : (test : ℕ → Bool) (a n k : ℕ) → a + n ≤ k → count test (span 0 k) + count (λ x. not (test x)) (span a n) ≤ k
-count-room test a n k fits = omega (arith, count-within (λ x. not (test x)) a n k fits, count-both test (span 0 k), length-span 0 k)
+count-room test a n k fits = omega (arith, count-part (λ x. not (test x)) a n k fits, counts-fill test (span 0 k), length-span 0 k)
 
 -- From a bound on no address passes.
 

@@ -35,8 +35,8 @@ module _ (store : List ℕ) (c : ℕ) (ps : List bytemap.Call) where
     pub delivered : bytemap.along bytemap.delivers fresh ps ≡ along delivers (start store) commands
     pub destinations : bytemap.along bytemap.destAfter fresh ps ≡ along destAfter (start store) commands
     pub windows : bytemap.along bytemap.windowAfter fresh ps ≡ along windowAfter (start store) commands
-    -- and after the list, which may be any part of a longer one: whether the command is open, the runs of set bits and the records, the sum of
-    -- ones and the number of distinct bytes
+    -- and after the list, and so after every call, since every beginning of a list is a list: whether the command is open, the runs of set bits and
+    -- the records, the sum of ones and the number of distinct bytes
     pub opened : isMapOpen (bytemap.ran fresh ps) ≡ isOpen (ran (start store) commands .state) c
     pub records : runsOf (bytemap.ran fresh ps) ≡ recordsOf (ran (start store) commands .state) c
     pub bytes : heldCount (bytemap.ran fresh ps) ≡ total (recordsOf (ran (start store) commands .state) c)

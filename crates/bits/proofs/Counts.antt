@@ -1,11 +1,13 @@
--- Laws of counts over spans: a span in two, tests that agree, a span that starts elsewhere, none that pass, those of a span within a span.
+-- Laws of counts over spans: a span in two, tests that agree, a span that starts elsewhere, none that pass, those of a span within a span; and those
+-- that pass and those that do not.
 use Prim.Native.Nat.{ℕ, zero, suc, _+_, _-_, _≤_, _<_}
 use native.Mathlib.Omega.{arith}
 use native.Mathlib.Nat.{add-zero, zero-add}
 use mathlib.Core.Path.{_≡_, refl, sym, ap, ap₂, _∙_}
 use mathlib.Core.List.{List, [], _∷_, _++_}
-use mathlib.Core.Bool.{Bool, true, false, cond, _&&_, and-true, and-false}
+use mathlib.Core.Bool.{Bool, true, false, not, cond, _&&_, and-true, and-false}
 use lib.Dec.{leb}
+use lib.ListN.{length}
 use borrow.Author.Tests.{le-leb, lt-leb, lt-ltb, le-ltb}
 use Rattle.octets.specs.Lists.{count}
 use Rattle.state.specs.Records.{span, inSpan}
@@ -70,3 +72,13 @@ count-within test a m low n h k =
   where
     inner : ℕ → Bool
     inner x = test x && inSpan low n x
+
+-- an element passes or it does not
+pub counts-fill : (test : ℕ → Bool) (xs : List ℕ) → count test xs + count (λ x. not (test x)) xs ≡ length xs
+unfolding count
+counts-fill test [] = refl
+counts-fill test (x ∷ xs) = go (test x) (count test xs) (count (λ y. not (test y)) xs) (counts-fill test xs)
+  where
+    go : (b : Bool) (k l : ℕ) → k + l ≡ length xs → cond b 1 0 + k + (cond (not b) 1 0 + l) ≡ suc (length xs)
+    go true k l e = omega arith
+    go false k l e = omega arith

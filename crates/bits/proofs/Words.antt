@@ -1,6 +1,6 @@
 -- Laws of the words of a map: their bits are those of the test that they were made from, words are those of their bits, and the ones of all
 -- words are the addresses that pass.
-use Prim.Native.Nat.{ℕ, zero, suc, _+_, _-_, _*_, _/_, _%_, _^_, _<_}
+use Prim.Native.Nat.{ℕ, zero, suc, _+_, _*_, _/_, _%_, _^_, _<_}
 use native.Mathlib.Omega.{arith}
 use native.Mathlib.Nat.{zero-add}
 use mathlib.Core.Path.{_≡_, refl, sym, ap, ap₂, _∙_}
@@ -15,6 +15,7 @@ use Rattle.octets.specs.Lists.{count, all}
 use Rattle.octets.proofs.Lists.{and-left, and-right, all-at}
 use Rattle.state.specs.Records.{span}
 use Rattle.state.proofs.Places.{length-span, span-at, map-read}
+use Rattle.bits.specs.Claims.{OnesCounted}
 use Rattle.bits.specs.Bits.{wordLimit, mapLimit, bit, isSet, wordOf, wordAt, wordsOf, onesOf, areWords}
 use Rattle.bits.proofs.Word.{digit, word-odd, word-half, word-bit, word-same, word-of-bits}
 use Rattle.bits.proofs.Counts.{count-split, count-same, count-empty}
@@ -106,6 +107,5 @@ module _ (words : List ℕ) (w : Words words) where
 pub words-of-bits : (words : List ℕ) → areWords words ≡ true → wordsOf (isSet words) ≡ words
 words-of-bits words e = words-read words (words-told words e)
 
--- the sum of ones is the number of addresses whose bit is set
-pub ones-counted : (words : List ℕ) → areWords words ≡ true → onesOf words ≡ count (isSet words) (span 0 mapLimit)
+pub ones-counted : OnesCounted
 ones-counted words e = sym (ap onesOf (words-of-bits words e)) ∙ ones-of-words (isSet words)

@@ -9,12 +9,13 @@ use lib.ListN.{length, getD}
 use Rattle.octets.specs.Lists.{all}
 use Rattle.state.specs.Records.{span}
 
--- how many words there are, and how many addresses
-abbrev pub wordLimit : ℕ
-wordLimit = 64
-
+-- how many addresses a map has, and so F-2's longest window
 abbrev pub mapLimit : ℕ
 mapLimit = 4096
+
+-- how many words of 64 bits they take
+abbrev pub wordLimit : ℕ
+wordLimit = 64
 
 -- is bit j of a word set?
 abbrev pub bit : (w j : ℕ) → Bool
@@ -35,9 +36,9 @@ wordAt test i = wordOf (λ j. test (64 * i + j)) 64
 
 -- the words in which the bit of an address is set exactly if the address passes
 unfoldable pub wordsOf : (ℕ → Bool) → List ℕ
-wordsOf test = map (λ i. wordOf (λ j. test (64 * i + j)) 64) (span 0 wordLimit)
+wordsOf test = map (wordAt test) (span 0 wordLimit)
 
--- the ones of all words, summed
+-- F-2's count of ones, summed over all words
 unfoldable pub onesOf : List ℕ → ℕ
 onesOf [] = 0
 onesOf (w ∷ ws) = ones w + onesOf ws
@@ -46,11 +47,11 @@ onesOf (w ∷ ws) = ones w + onesOf ws
 abbrev pub areWords : List ℕ → Bool
 areWords words = eqb (length words) wordLimit && all (λ w. ltb w (2 ^ 64)) words
 
--- Does the place below x pass the test? Of the place below the first it is told.
+-- does the place below x pass the test? `first` answers for the place below 0
 abbrev pub lower : (first : Bool) → (ℕ → Bool) → (x : ℕ) → Bool
 lower first test zero = first
 lower first test (suc x) = test x
 
--- does a run start at x, which passes where the place below it does not?
+-- does a run start at x: does x pass, and the place below it not?
 abbrev pub startsAt : (first : Bool) → (ℕ → Bool) → (x : ℕ) → Bool
 startsAt first test x = test x && not (lower first test x)

@@ -23,7 +23,8 @@ pub record Walking (w : Walk) (i : ℕ) : Type 0 where
 abbrev pub WalksOn : (words : List ℕ) (i k : ℕ) (w r : Walk) → Type 0
 WalksOn words i k w r = (test : ℕ → Bool) → ((j : ℕ) → i ≤ j → j < k → getD words j 0 ≡ wordAt test j) → Walked test w i → Walked test r k
 
--- A walk goes over the words of a span: of the addresses that are set or in the span.
+-- A walk goes over the words that have an address of a span: of the addresses that are set or in the span, it has come behind these words where it
+-- had come to the first of them.
 abbrev pub WalksSpan : (words : List ℕ) (low high : ℕ) (w r : Walk) → Type 0
 WalksSpan words low high w r =
     Walked (λ x. isSet words x || inSpan low (high - low) x) w (low / 64)

@@ -22,7 +22,7 @@ pub fn ones(words: &[u64]) -> usize
     n
 }
 
-// How many addresses of the span are set. Only the words that have an address of it are looked at.
+// How many addresses of the span are set. Only the words that have an address of it are looked at, and one at most if it is empty.
 pub fn count_span(words: &[u64], low: usize, high: usize) -> usize
     requires { ⌜ (length (now words) ≡ wordLimit) × (low ≤ high) × (high ≤ mapLimit) ⌝ }
     ensures { λ r. ⌜ r ≡ count (isSet (now (words .entry))) (span low (high - low)) ⌝ }

@@ -1,4 +1,4 @@
-// Bits taken away and set: whether none is set, the clearing of all, and the setting of a span.
+// Bits cleared and set: whether none is set, the clearing of all, and the setting of a span.
 ghost use mathlib.Core.Path.{_≡_};
 ghost use mathlib.Core.Bool.{_||_};
 ghost use Prim.Native.Nat.{_-_, _≤_};
@@ -22,7 +22,7 @@ pub fn all_zero(words: &[u64]) -> bool
     or == 0
 }
 
-// Takes every bit away.
+// Clears every bit.
 pub fn clear(words: &mut [u64])
     ensures { λ _. ⌜ now (words .exit) ≡ replicate (length (now (words .entry))) 0 ⌝ }
 {
@@ -33,7 +33,7 @@ pub fn clear(words: &mut [u64])
     }
 }
 
-// Sets every address of the span. Only the words that have an address of it are touched.
+// Sets every address of the span. Only the words that have an address of it are touched, and one at most if it is empty.
 pub fn set_span(words: &mut [u64], low: usize, high: usize)
     requires { ⌜ (length (now words) ≡ wordLimit) × (low ≤ high) × (high ≤ mapLimit) ⌝ }
     ensures { λ _. ⌜ now (words .exit) ≡ wordsOf (λ x. isSet (now (words .entry)) x || inSpan low (high - low) x) ⌝ }

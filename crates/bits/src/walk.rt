@@ -1,4 +1,4 @@
-// Runs, counted by walking over the words: of the set bits, and of these with a span put to them.
+// Runs, counted by walking over the words: those of the set bits, and those of the set bits and a span together.
 ghost use mathlib.Core.Path.{_≡_};
 ghost use mathlib.Core.Bool.{_||_};
 ghost use Prim.Native.Nat.{_-_, _/_, _≤_};
@@ -34,7 +34,7 @@ fn walk_on(words: &[u64], from: usize, to: usize, w: Walk) -> Walk
     Walk { n, carry }
 }
 
-// Walks over the words that have an address of the span, with its bits put to them.
+// Walks over the words that have an address of the span, with the bits of the span added.
 fn walk_span(words: &[u64], low: usize, high: usize, w: Walk) -> Walk
     requires { ⌜ (length (now words) ≡ wordLimit) × (low ≤ high) × (high ≤ mapLimit) × Walking w (low / 64) ⌝ }
     ensures { λ r. ⌜ WalksSpan (now (words .entry)) low high w r ⌝ }
@@ -53,7 +53,7 @@ fn walk_span(words: &[u64], low: usize, high: usize, w: Walk) -> Walk
     Walk { n, carry }
 }
 
-// How many runs the set bits are.
+// How many runs the set bits make.
 pub fn runs(words: &[u64]) -> usize
     requires { ⌜ length (now words) ≡ wordLimit ⌝ }
     ensures { λ r. ⌜ r ≡ length (runsFrom (isSet (now (words .entry))) 0 mapLimit) ⌝ }
@@ -62,7 +62,7 @@ pub fn runs(words: &[u64]) -> usize
     w.n
 }
 
-// How many runs the addresses are that are set or in the span.
+// How many runs the addresses make that are set or in the span.
 pub fn runs_with(words: &[u64], low: usize, high: usize) -> usize
     requires { ⌜ (length (now words) ≡ wordLimit) × (low ≤ high) × (high ≤ mapLimit) ⌝ }
     ensures { λ r. ⌜ r ≡ length (runsFrom (λ x. isSet (now (words .entry)) x || inSpan low (high - low) x) 0 mapLimit) ⌝ }

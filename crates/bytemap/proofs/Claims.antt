@@ -1,17 +1,27 @@
 -- The claims about the byte map's calls.
-use mathlib.Core.Path.{refl}
-use mathlib.Core.List.{[], _∷_}
-use lib.ListN.{length}
-use Rattle.octets.specs.Lists.{all}
-use Rattle.state.specs.Verdict.{contains}
-use Rattle.state.proofs.Verdict.{verdict-keeps}
-use Rattle.bits.proofs.Words as bits
-use Rattle.bytemap.specs.Map.{runsOf, heldCount}
+use Prim.Native.Nat.{ℕ, zero, suc, _+_, _/_, _%_, _≤_, _<_}
+use native.Mathlib.Omega.{arith}
+use mathlib.Core.Path.{_≡_, refl, ap, sym, _∙_}
+use mathlib.Core.List.{List, [], _∷_}
+use mathlib.Core.Bool.{Bool, true, false, _&&_, _||_, false≢true, and-false}
+use mathlib.Core.Logic.{_≢_}
+use lib.Dec.{ltb, leb, eqb}
+use lib.ListN.{length, getD}
+use borrow.Author.Tests.{eqb-true, eqb-false, ltb-true, ltb-false, le-ltb, lt-ltb, lt-leb}
+use Rattle.octets.specs.Lists.{all, allZero}
+use Rattle.octets.proofs.Lists.{and-left, and-right, all-at}
+use Rattle.state.specs.Limits.{recordLimit, transferLimit}
+use Rattle.state.specs.Records.{span}
+use Rattle.state.specs.Verdict.{refused, contains, verdict}
+use Rattle.state.proofs.Verdict.{verdict-keeps, never-given}
+use Rattle.bits.specs.Bits.{mapLimit, bit, isSet}
+use Rattle.bits.proofs.Word.{bit-of-zero}
+use Rattle.bytemap.specs.Map.{isOpen, isHeld, runsOf, heldCount, isEmpty, isClean, holds}
 use Rattle.bytemap.specs.Begin.{beginChecks, beginSays, beginMap}
 use Rattle.bytemap.specs.Fetch.{fetchChecks, fetchSays, fetchMap, fetchDest, freshCount, replayedCount}
 use Rattle.bytemap.specs.End.{endChecks, endSays, endMap}
-use Rattle.bytemap.specs.Runs.{begin, fetch, end}
-use Rattle.bytemap.specs.Claims.{ofCall, MapRefusals, MapUnchanged, OnesCounted}
+use Rattle.bytemap.specs.Runs.{begin, fetch, end, says}
+use Rattle.bytemap.specs.Claims.{ofCall, MapRefusals, MapUnchanged, MapBroken, ThirtyGiven}
 
 pub map-refusals : MapRefusals
 unfolding beginSays fetchSays endSays all contains
@@ -31,5 +41,56 @@ map-unchanged m begin away = record { map = rw away; dest = refl }
 map-unchanged m (fetch a n dest window) away = record { map = rw away; dest = rw away }
 map-unchanged m end away = record { map = rw away; dest = refl }
 
-pub ones-counted : OnesCounted
-ones-counted = bits.ones-counted
+-- words that are all zero have no bit set
+zero-unset : (words : List ℕ) → allZero words ≡ true → (x : ℕ) → isSet words x ≡ false
+zero-unset words zeros x =
+    ap (λ (w : ℕ). bit w (x % 64)) (eqb-true (getD words (x / 64) 0) 0 (all-at (λ w. eqb w 0) words (x / 64) 0 zeros refl)) ∙ bit-of-zero (x % 64)
+
+-- what passes at every address of a span passes at each
+at-each : (test : ℕ → Bool) (a n x : ℕ) → all test (span a n) ≡ true → a ≤ x → x < a + n → test x ≡ true
+unfolding all span
+at-each test a zero x h low high = absurd (omega arith)
+at-each test a (suc n) x h low high = go (eqb x a) refl (at-each test (suc a) n x (and-right (test a) (all test (span (suc a) n)) h))
+  where
+    go : (b : Bool) → eqb x a ≡ b → (suc a ≤ x → x < suc a + n → test x ≡ true) → test x ≡ true
+    go true e later = ap test (eqb-true x a e) ∙ and-left (test a) (all test (span (suc a) n)) h
+    go false e later = later (omega (arith, eqb-false x a e)) (omega arith)
+
+pub map-broken : MapBroken
+unfolding holds
+map-broken m = record {
+  bitLeft = λ x closed held. go-bit (isEmpty m) refl x closed held;
+  valueLeft = λ x inside free value. go-value (isClean m) refl x inside free value;
+  manyRuns = λ many. rw (lt-leb (length (runsOf m)) recordLimit many) (and-false ((isOpen m || isEmpty m) && isClean m));
+}
+  where
+    go-bit : (b : Bool) → isEmpty m ≡ b → (x : ℕ) → isOpen m ≡ false → isHeld m x ≡ true → holds m ≡ false
+    go-bit true e x closed held = absurd (false≢true (sym (zero-unset (m .words) e x) ∙ held))
+    go-bit false e x closed held = rw (closed, e)
+
+    second : (b c : Bool) → (b && false && c) ≡ false
+    second true c = refl
+    second false c = refl
+
+    go-value : (b : Bool) → isClean m ≡ b → (x : ℕ) → x < mapLimit → isHeld m x ≡ false → getD (m .values) x 0 ≢ 0 → holds m ≡ false
+    go-value true e x inside free value =
+        let zero-or-held = at-each (λ y. isHeld m y || eqb (getD (m .values) y 0) 0) 0 mapLimit x e (omega arith) inside in
+        absurd (value (eqb-true (getD (m .values) x 0) 0 (rw free at zero-or-held)))
+    go-value false e x inside free value = rw e (second (isOpen m || isEmpty m) (leb (length (runsOf m)) recordLimit))
+
+pub thirty-given : ThirtyGiven
+unfolding fetchSays verdict all
+thirty-given m a n dest window = ((λ e. go (ltb transferLimit n) refl (ltb mapLimit (length window)) refl e), back)
+  where
+    back : (n ≤ transferLimit) × (mapLimit < length window) → says m (fetch a n dest window) ≡ refused 30
+    back h = rw (le-ltb transferLimit n (h .0), lt-ltb mapLimit (length window) (h .1))
+
+    go : (p : Bool) → ltb transferLimit n ≡ p → (q : Bool) → ltb mapLimit (length window) ≡ q → says m (fetch a n dest window) ≡ refused 30
+        → (n ≤ transferLimit) × (mapLimit < length window)
+    go true f q g e =
+        let four : refused 4 ≡ refused 30 = rw f at e in
+        let z : _≡_ {A = ℕ} 4 30 = cc in
+        absurd (omega arith)
+    go false f true g e = (ltb-false transferLimit n f, ltb-true mapLimit (length window) g)
+    go false f false g e =
+        absurd (never-given 30 (fetchChecks m (length window) (length dest) a n) (freshCount m a n ∷ replayedCount m a n ∷ []) (rw g) e)

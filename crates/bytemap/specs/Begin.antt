@@ -11,9 +11,11 @@ use Rattle.bytemap.specs.Map.{Map, cleared, mapBroken, alreadyOpen}
 abbrev pub beginChecks : Map → List Check
 beginChecks m = mapBroken m ∷ alreadyOpen m ∷ []
 
+-- the answer; begin replies no number
 unfoldable pub beginSays : Map → Reply
 beginSays m = verdict (beginChecks m) (replied [])
 
+-- F-2's begin: the command is open, and the whole map is cleared
 unfoldable pub beginMap : Map → Map
 beginMap m = cond (accepted (beginSays m)) (cleared 1) m
 

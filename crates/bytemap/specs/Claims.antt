@@ -1,14 +1,14 @@
 -- The claims about the byte map's calls, whatever map they are given (request F-2 of 02, the agreed changes; docs/RULES.md has its rules).
-use Prim.Native.Nat.{ℕ}
+use Prim.Native.Nat.{ℕ, _≤_, _<_}
 use mathlib.Core.Path.{_≡_}
 use mathlib.Core.List.{List, [], _∷_}
 use mathlib.Core.Bool.{true, false}
-use lib.ListN.{length}
-use Rattle.octets.specs.Lists.{count}
-use Rattle.state.specs.Records.{span}
-use Rattle.state.specs.Verdict.{accepted, keepsTo, Check, numbers}
-use Rattle.bits.specs.Bits.{mapLimit, isSet, onesOf, areWords}
-use Rattle.bytemap.specs.Map.{Map}
+use mathlib.Core.Logic.{_↔_, _≢_}
+use lib.ListN.{length, getD}
+use Rattle.state.specs.Limits.{recordLimit, transferLimit}
+use Rattle.state.specs.Verdict.{refused, accepted, keepsTo, Check, numbers}
+use Rattle.bits.specs.Bits.{mapLimit}
+use Rattle.bytemap.specs.Map.{Map, isOpen, isHeld, runsOf, holds}
 use Rattle.bytemap.specs.Begin.{beginChecks}
 use Rattle.bytemap.specs.Fetch.{fetchChecks}
 use Rattle.bytemap.specs.End.{endChecks}
@@ -21,12 +21,13 @@ ofCall begin = 20 ∷ 22 ∷ []
 ofCall (fetch a n dest window) = 4 ∷ 30 ∷ 9 ∷ 10 ∷ 20 ∷ 21 ∷ 24 ∷ []
 ofCall end = 20 ∷ 21 ∷ []
 
+-- the checks of each call
 abbrev pub checksOf : Map → Call → List Check
 checksOf m begin = beginChecks m
 checksOf m (fetch a n dest window) = fetchChecks m (length window) (length dest) a n
 checksOf m end = endChecks m
 
--- A refused call is refused with a number of its list, and the checks stand in the order of that list.
+-- F-2's lists of numbers: a refused call is refused with a number of its list, and the checks stand in the order of that list.
 pub record Listed (m : Map) (p : Call) : Type 0 where
   pub order : numbers (checksOf m p) ≡ ofCall p
   pub given : keepsTo (ofCall p) (says m p) ≡ true
@@ -34,7 +35,7 @@ pub record Listed (m : Map) (p : Call) : Type 0 where
 abbrev pub MapRefusals : Type 0
 MapRefusals = (m : Map) (p : Call) → Listed m p
 
--- A refused call leaves map and destination as they were.
+-- 01's rule on refusals: a refused call leaves map and destination as they were. (The window is lent to be read.)
 pub record Unchanged (m : Map) (p : Call) : Type 0 where
   pub map : after m p ≡ m
   pub dest : destAfter m p ≡ destGiven p
@@ -42,6 +43,19 @@ pub record Unchanged (m : Map) (p : Call) : Type 0 where
 abbrev pub MapUnchanged : Type 0
 MapUnchanged = (m : Map) (p : Call) → accepted (says m p) ≡ false → Unchanged m p
 
--- The sum of ones is the number of addresses whose bit is set, for any words that a map can have.
-abbrev pub OnesCounted : Type 0
-OnesCounted = (words : List ℕ) → areWords words ≡ true → onesOf words ≡ count (isSet words) (span 0 mapLimit)
+-- F-2's three ways in which a map does not hold together: it is closed and a bit is set; an address that is not held has a value that is not
+-- zero; or there are more than 64 runs. All addresses count, whatever window is lent, and an open map as a closed one.
+pub record Broken (m : Map) : Type 0 where
+  pub bitLeft : (x : ℕ) → isOpen m ≡ false → isHeld m x ≡ true → holds m ≡ false
+  pub valueLeft : (x : ℕ) → x < mapLimit → isHeld m x ≡ false → getD (m .values) x 0 ≢ 0 → holds m ≡ false
+  pub manyRuns : recordLimit < length (runsOf m) → holds m ≡ false
+
+abbrev pub MapBroken : Type 0
+MapBroken = (m : Map) → Broken m
+
+-- 30 is given exactly to a window longer than 4,096 bytes, where 4 does not apply: whether or not the span ends behind the window, the
+-- destination has room, or the map holds together.
+abbrev pub ThirtyGiven : Type 0
+ThirtyGiven =
+    (m : Map) (a n : ℕ) (dest window : List ℕ)
+    → (says m (fetch a n dest window) ≡ refused 30) ↔ ((n ≤ transferLimit) × (mapLimit < length window))

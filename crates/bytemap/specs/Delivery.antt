@@ -1,10 +1,10 @@
 -- What the code of fetch does once it is accepted.
-use Prim.Native.Nat.{ℕ, _+_, _-_, _≤_}
+use Prim.Native.Nat.{ℕ, _+_, _≤_}
 use mathlib.Core.Path.{_≡_}
-use mathlib.Core.List.{List, map}
+use mathlib.Core.List.{List}
 use mathlib.Core.Bool.{_||_}
 use Rattle.octets.specs.Lists.{overwrite}
-use Rattle.state.specs.Records.{inSpan, span}
+use Rattle.state.specs.Records.{inSpan}
 use Rattle.bits.specs.Bits.{wordLimit, mapLimit, isSet, wordsOf}
 use Rattle.stretches.specs.Values.{taken}
 

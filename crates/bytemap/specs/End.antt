@@ -16,6 +16,7 @@ endChecks m = mapBroken m ∷ notOpen m ∷ []
 unfoldable pub endSays : Map → Reply
 endSays m = verdict (endChecks m) (replied (length (runsOf m) ∷ heldCount m ∷ []))
 
+-- F-2's end: the command is closed, and the whole map is cleared
 unfoldable pub endMap : Map → Map
 endMap m = cond (accepted (endSays m)) (cleared 0) m
 

@@ -28,7 +28,7 @@ module _ (m : Map) (a n : ℕ) where
   abbrev pub runsThen : List Record
   runsThen = runsFrom heldThen 0 mapLimit
 
-  -- the addresses of the span that are not held, and those that are
+  -- fresh and replayed: how many addresses of the span are not held, and how many are
   abbrev pub freshCount : ℕ
   freshCount = count (λ x. not (isHeld m x)) (span a n)
 
@@ -59,17 +59,17 @@ abbrev pub seen : Map → (window : List ℕ) → (a n : ℕ) → List ℕ
 seen m window a n = map (sees m window) (span a n)
 
 module _ (m : Map) (window dest : List ℕ) (a n : ℕ) where
-  -- the span is held, and so are these bytes
+  -- the map after it: the span is held, with its bytes as the command sees them
   unfoldable pub fetchMap : Map
   fetchMap =
       cond (accepted (fetchSays m (length window) (length dest) a n))
       (record { flag = m .flag; words = wordsOf (heldThen m a n); values = overwrite (m .values) a (seen m window a n) }) m
 
-  -- they go to the front of the destination; the places behind them stay
+  -- the destination after it: these bytes are at its front, and the places behind them stay
   unfoldable pub fetchDest : List ℕ
   fetchDest = cond (accepted (fetchSays m (length window) (length dest) a n)) (overwrite dest 0 (seen m window a n)) dest
 
--- the call: its answer, the map and the destination after it
+-- the call: its answer, the map and the destination after it; the window is lent to be read, and stays
 pub record Fetches (m : Map) (window dest : List ℕ) (a n : ℕ) (r : FetchAnswer) (m′ : Map) (dest′ : List ℕ) : Type 0 where
   pub answer : fetchReply r ≡ fetchSays m (length window) (length dest) a n
   pub map : m′ ≡ fetchMap m window dest a n

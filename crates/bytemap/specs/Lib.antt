@@ -1,7 +1,7 @@
 pub mod Map
-pub mod Delivery
 pub mod Begin
 pub mod Fetch
 pub mod End
 pub mod Runs
 pub mod Claims
+pub mod Delivery

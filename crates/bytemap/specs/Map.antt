@@ -21,9 +21,11 @@ pub record Map : Type 0 where
   pub words : List ℕ
   pub values : List ℕ
 
+-- the map that these three are
 abbrev pub mapOf : (flag : ℕ) (words values : List ℕ) → Map
 mapOf flag words values = record { flag = flag; words = words; values = values }
 
+-- is its command open?
 abbrev pub isOpen : Map → Bool
 isOpen m = ltb 0 (m .flag)
 

@@ -15,6 +15,7 @@ pub data Call : Type 0 where
   fetch : (a n : ℕ) (dest window : List ℕ) → Call
   end : Call
 
+-- the answer of a call
 abbrev pub says : Map → Call → Reply
 says m begin = beginSays m
 says m (fetch a n dest window) = fetchSays m (length window) (length dest) a n

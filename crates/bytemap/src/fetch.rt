@@ -36,12 +36,12 @@ fn judge(
     words: &[u64],
     values: &[u8],
     window_len: usize,
-    room: usize,
+    destination_len: usize,
     address: usize,
     size: usize,
 ) -> FetchAnswer
     requires { ⌜ (length (now words) ≡ wordLimit) × (length (now values) ≡ mapLimit) ⌝ }
-    ensures { λ r. ⌜ fetchReply r ≡ fetchSays (mapOf flag (now (words .entry)) (now (values .entry))) «window_len» room address size ⌝ }
+    ensures { λ r. ⌜ fetchReply r ≡ fetchSays (mapOf flag (now (words .entry)) (now (values .entry))) «window_len» «destination_len» address size ⌝ }
 {
     if CacheState::TRANSFER < size {
         return FetchAnswer::Refused(Refusal::LengthTooLong);
@@ -52,7 +52,7 @@ fn judge(
     if range::outside(window_len, address, size) {
         return FetchAnswer::Refused(Refusal::OutsideWindow);
     }
-    if room < size {
+    if destination_len < size {
         return FetchAnswer::Refused(Refusal::BufferTooShort);
     }
     let runs = bits::runs(words);

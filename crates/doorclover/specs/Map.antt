@@ -1,5 +1,5 @@
--- The byte map's calls as C makes them: each answers what `says` says of its call, in C's form, and leaves what lists of calls hand on (request
--- F-2 of 02, the agreed changes; docs/RULES.md has its rules).
+-- The byte map's calls as C makes them: each answers what `says` says of its call, in C's form, and leaves the map and the destination that lists of
+-- calls have after it; a window is lent to be read, and stays (request F-2 of 02, the agreed changes; docs/RULES.md has its rules).
 use Prim.Native.Nat.{ℕ}
 use mathlib.Core.Path.{_≡_}
 use mathlib.Core.List.{List}

@@ -30,7 +30,7 @@ number TooManyRecords = 24
 number NoSuchRecord = 25
 number WindowBeyondMap = 30
 
--- the reason as a program tells it; 01 has the numbers alone
+-- the reason as a program tells it; 01 and 02 have the numbers alone
 abbrev pub reason : Refusal → String
 reason FrameTooShort = "the frame ends before its fifth byte"
 reason UnknownKind = "no kind of step has this number"

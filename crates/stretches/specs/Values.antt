@@ -17,7 +17,8 @@ bitsFrom low bits x = bit bits (x - low)
 pub record Stretch (bits n : ℕ) : Type 0 where
   pub same : (j : ℕ) → j < n → bit bits j ≡ bit bits 0
 
--- how many lowest bits are known to be alike: none more than asked for, and one at least if any is asked for
+-- r lowest bits are alike, at most n of them, and one at least if any is asked for. That they are all that are alike is not promised: only the
+-- number of turns depends on it.
 pub record Alike (bits n r : ℕ) : Type 0 where
   pub stretch : Stretch bits r
   pub most : r ≤ n

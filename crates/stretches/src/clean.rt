@@ -48,7 +48,7 @@ fn clean_stretches(bits: u64, values: &[u8]) -> bool
     true
 }
 
-// The same, where most words have no bit set.
+// The same; a word with no bit set, as most have none, is looked at in one go.
 fn clean_word(bits: u64, values: &[u8]) -> bool
     requires { ⌜ length (now values) ≡ 64 ⌝ }
     ensures { λ r. ⌜ r ≡ clean (bit bits) (now (values .entry)) 0 64 ⌝ }

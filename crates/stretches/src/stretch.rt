@@ -2,7 +2,7 @@
 ghost use Rattle.stretches.specs.Values.{Alike};
 use octets::lesser;
 
-// How many of the lowest bits are like the lowest, at most n.
+// So many of the lowest bits are like the lowest, at most n.
 pub(crate) fn alike(bits: u64, n: usize) -> usize
     ensures { λ r. ⌜ Alike bits n r ⌝ }
 {

@@ -1,5 +1,5 @@
 -- The checks in their order: the first that applies is given. Each test that is passed makes its check false, and the rest decide.
-use Prim.Native.Nat.{ℕ, _+_, _-_, _≤_}
+use Prim.Native.Nat.{_+_, _-_, _≤_}
 use native.Mathlib.Omega.{arith}
 use mathlib.Core.Path.{_≡_, ap, sym, _∙_}
 use mathlib.Core.List.{List, [], _∷_}
@@ -23,7 +23,7 @@ module _ (s : tie.Start) where
   lent = mapOf (s .args .flag) (now (s .args .words)) (now (s .args .values))
 
   abbrev checks : List Check
-  checks = fetchChecks lent (s .args .window-len) (s .args .room) (s .args .address) (s .args .size)
+  checks = fetchChecks lent (s .args .window-len) (s .args .destination-len) (s .args .address) (s .args .size)
 
   abbrev reply : Reply
   reply = replied (freshCount lent (s .args .address) (s .args .size) ∷ replayedCount lent (s .args .address) (s .args .size) ∷ [])
@@ -53,7 +53,7 @@ module _ (c : tie.Else4) where
 
   past-four : verdict (checks (entered small)) (reply (entered small)) ≡ verdict (drop 4 (checks (entered small))) (reply (entered small))
   unfolding verdict
-  past-four = past-two small ∙ rw (inside (c .before), le-ltb (entered small .args .room) (entered small .args .size) (omega arith))
+  past-four = past-two small ∙ rw (inside (c .before), le-ltb (entered small .args .destination-len) (entered small .args .size) (omega arith))
 
 whole : (c : tie.Else5) → holds (lent (entered (small (c .before .before .before)))) ≡ true
 whole c = sym (c .before .holds .ensures) ∙ not-false _ (c .if5 .left)
@@ -88,7 +88,7 @@ returns-4 : tie.Need-returns-4
 unfolding fetchSays verdict
 returns-4 c =
     let s = entered (c .before .before .before) in
-    sym (past-two (c .before .before .before) ∙ rw (inside (c .before), lt-ltb (s .args .room) (s .args .size) (omega arith)))
+    sym (past-two (c .before .before .before) ∙ rw (inside (c .before), lt-ltb (s .args .destination-len) (s .args .size) (omega arith)))
 
 returns-5 : tie.Need-returns-5
 unfolding fetchSays verdict
