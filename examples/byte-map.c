@@ -1,8 +1,8 @@
 /*
  * The byte map: is the count that was checked the count that is used?
  *
- * A host puts a list at address 62: a count, 4, and four tags of a byte. The firmware fetches the count
- * and checks it. Then the host writes 40 over it. The firmware fetches the whole list, and still has 4:
+ * A host has a list at address 62: a count, 4, and four tags of a byte, which are 0 here. The firmware
+ * fetches the count and checks it. Then the host writes 40 over it. The firmware fetches the whole list, and still has 4:
  * the map holds the byte that was checked. Its bits are printed, which go over the edge of a word.
  *
  * Build and run it at the root of the repository:

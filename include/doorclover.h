@@ -343,10 +343,11 @@ DOORCLOVER_USE_REPLY doorclover_replayed doorclover_journal_replay(
     uint8_t *output, size_t output_size);
 
 /*
- * The byte map's calls. A map's parts are lent one by one, as &map.open, map.words, map.values. From
- * the fresh map on, begins, fetches and ends over windows of at most 4,096 bytes are proved to get the
- * replies, refusals and delivered bytes that the calls above give one command with a store of the right
- * length, and the runs of set bits are that command's records.
+ * The byte map's calls. A map's parts are lent one by one, as &map.open, map.words, map.values. It is
+ * proved that a list of these calls, begun on the fresh map and with no window above 4,096 bytes, is
+ * answered as the calls above answer it for any one command of a fresh state whose store has 32,768
+ * bytes: same status, same numbers, same bytes; and after each call every run is a record of that
+ * command, and every record a run.
  */
 
 /* Makes the fresh map: the command is closed, and nothing is held. */

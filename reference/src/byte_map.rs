@@ -1,5 +1,6 @@
 //! The byte map (F-2 in 02, the agreed changes; docs/RULES.md has them too): an
-//! engine of one command, with one bit and one held value for each address.
+//! engine of one command. Each address has a bit, which says whether it is held,
+//! and a value.
 //!
 //! A call takes the map apart into cells, each with its byte or with none, does
 //! its work on them, and puts the map together again.
@@ -75,7 +76,7 @@ impl ByteMap {
         runs_of(&self.cells())
     }
 
-    /// How many addresses are held: the count of ones in the words.
+    /// How many addresses are held: all ones of the words, added up.
     pub fn held(&self) -> u64 {
         self.words
             .iter()

@@ -13,7 +13,7 @@ use Rattle.octets.proofs.Overwrite.{overwrite-inside, overwrite-below, overwrit
 use Rattle.state.specs.Records.{inSpan, span}
 use Rattle.state.specs.Runs.{runsFrom}
 use Rattle.state.proofs.Places.{length-span, span-at}
-use Rattle.bits.proofs.Counts.{count-split, count-none}
+use Rattle.bits.proofs.Counts.{count-split, count-none, counts-fill}
 
 -- a test that every element passes
 pub all-pass : {A : Type 0} (test : A → Bool) (xs : List A) → ((x : A) → test x ≡ true) → all test xs ≡ true

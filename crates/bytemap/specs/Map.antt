@@ -1,5 +1,5 @@
--- The byte map, the plain engine of request F-2 of 02 (the agreed changes; docs/RULES.md has its rules): one command, and one bit and one
--- held value for each of 4,096 addresses.
+-- The byte map, the plain engine of request F-2 of 02 (the agreed changes; docs/RULES.md has its rules): it serves one command, and each of 4,096
+-- addresses has a bit, set if its byte is held, and a value.
 use Prim.Native.Nat.{ℕ}
 use mathlib.Core.List.{List}
 use mathlib.Core.Bool.{Bool, not, _&&_, _||_}

@@ -11,6 +11,7 @@ use crate::reset::reset;
 use state::BeginAnswer;
 use state::Refusal;
 
+// The half that judges: the first check that applies is given.
 fn judge(flag: u64, words: &[u64], values: &[u8]) -> BeginAnswer
     requires { ⌜ (length (now words) ≡ wordLimit) × (length (now values) ≡ mapLimit) ⌝ }
     ensures { λ r. ⌜ beginReply r ≡ beginSays (mapOf flag (now (words .entry)) (now (values .entry))) ⌝ }

@@ -11,6 +11,7 @@ use crate::reset::reset;
 use state::EndAnswer;
 use state::Refusal;
 
+// The half that judges: the first check that applies is given.
 fn judge(flag: u64, words: &[u64], values: &[u8]) -> EndAnswer
     requires { ⌜ (length (now words) ≡ wordLimit) × (length (now values) ≡ mapLimit) ⌝ }
     ensures { λ r. ⌜ endReply r ≡ endSays (mapOf flag (now (words .entry)) (now (values .entry))) ⌝ }

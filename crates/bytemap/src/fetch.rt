@@ -1,11 +1,14 @@
 // Fetch: a span is delivered to the destination. What of it was not held before is read from the window, and is held from then on.
 ghost use mathlib.Core.Path.{_≡_};
-ghost use mathlib.Core.Bool.{_||_};
+ghost use mathlib.Core.List.{[], _∷_};
+ghost use mathlib.Core.Bool.{not, _||_};
 ghost use Prim.Native.Nat.{_+_, _≤_};
 ghost use lib.Dec.{leb};
 ghost use lib.ListN.{length};
 ghost use Rattle.state.specs.Limits.{recordLimit};
-ghost use Rattle.state.specs.Records.{inSpan};
+ghost use Rattle.octets.specs.Lists.{count};
+ghost use Rattle.state.specs.Records.{inSpan, span};
+ghost use Rattle.state.specs.Verdict.{replied};
 ghost use Rattle.state.specs.Runs.{runsFrom};
 ghost use Rattle.state.specs.Answers.{fetchReply};
 ghost use Rattle.bits.specs.Bits.{wordLimit, mapLimit, isSet};
@@ -31,6 +34,19 @@ fn has_room(words: &[u64], runs: usize, address: usize, size: usize) -> bool
     bits::runs_with(words, address, address + size) <= CacheState::RECORDS
 }
 
+// The reply of an accepted fetch: the counts of its span.
+fn counted(words: &[u64], address: usize, size: usize) -> FetchAnswer
+    requires { ⌜ (length (now words) ≡ wordLimit) × (address + size ≤ mapLimit) ⌝ }
+    ensures { λ r. ⌜ fetchReply r ≡ replied (count (λ x. not (isSet (now (words .entry)) x)) (span address size) ∷ count (isSet (now (words .entry))) (span address size) ∷ []) ⌝ }
+{
+    let replayed = bits::count_span(words, address, address + size);
+    FetchAnswer::Done {
+        fresh: size - replayed,
+        replayed,
+    }
+}
+
+// The half that judges: the first check that applies is given.
 fn judge(
     flag: u64,
     words: &[u64],
@@ -65,11 +81,7 @@ fn judge(
     if !has_room(words, runs, address, size) {
         return FetchAnswer::Refused(Refusal::TooManyRecords);
     }
-    let replayed = bits::count_span(words, address, address + size);
-    FetchAnswer::Done {
-        fresh: size - replayed,
-        replayed,
-    }
+    counted(words, address, size)
 }
 
 // The bytes of the span are taken into the values, go from there to the destination, and the span is set.

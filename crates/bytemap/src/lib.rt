@@ -1,5 +1,5 @@
-// The byte map: a small engine for one command and a window of at most 4,096 bytes. There is one bit and one held value for each address, and
-// a word that says whether the command is open. Whoever calls lends the three, and the calls change them where they stand.
+// The byte map: a small engine for one command and a window of at most 4,096 bytes. Each address has a bit, set if its byte is held, and a
+// value; a word says whether the command is open. Whoever calls lends the three, and the calls change them where they stand.
 ghost use mathlib.Core.Path.{_≡_};
 ghost use Rattle.bytemap.specs.Map.{fresh, mapOf};
 

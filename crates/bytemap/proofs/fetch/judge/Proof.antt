@@ -1,5 +1,5 @@
 -- The checks in their order: the first that applies is given. Each test that is passed makes its check false, and the rest decide.
-use Prim.Native.Nat.{_+_, _-_, _≤_}
+use Prim.Native.Nat.{_+_, _≤_}
 use native.Mathlib.Omega.{arith}
 use mathlib.Core.Path.{_≡_, ap, sym, _∙_}
 use mathlib.Core.List.{List, [], _∷_}
@@ -12,9 +12,9 @@ use denote.Ref.{now}
 use Rattle.state.specs.Limits.{transferLimit, recordLimit}
 use Rattle.state.specs.Verdict.{Reply, Check, replied, verdict}
 use Rattle.bits.specs.Bits.{mapLimit}
-use Rattle.bytemap.specs.Map.{Map, mapOf, isHeld, holds}
+use Rattle.bytemap.specs.Map.{Map, mapOf, holds}
 use Rattle.bytemap.specs.Fetch.{runsThen, freshCount, replayedCount, fetchChecks, fetchSays}
-use Rattle.bytemap.proofs.Counting.{other-count, more-than}
+use Rattle.bytemap.proofs.Counting.{more-than}
 use Rattle.bytemap.proofs.fetch.judge.Statement.{statement}
 use Rattle.bytemap.proofs.fetch.judge.Tie as tie
 
@@ -111,25 +111,11 @@ returns-7 : tie.Need-returns-7
 unfolding fetchSays verdict
 returns-7 c = sym (past-six (c .before .before) ∙ rw (full (c .before) ∙ ap not (not-true (c .before .has-room .result) (c .if7 .taken))))
 
--- the two counts
-module _ (c : tie.After-count-span) where
-  abbrev begun : tie.Start
-  begun = start (c .before .before .before)
-
-  replayed-is : c .count-span .result ≡ replayedCount (lent begun) (begun .args .address) (begun .args .size)
-  replayed-is =
-      let size : begun .args .address + begun .args .size - begun .args .address ≡ begun .args .size = omega arith in
-      c .count-span .ensures ∙ ap (replayedCount (lent begun) (begun .args .address)) size
-
-  fresh-is : (freshCount (lent begun) (begun .args .address) (begun .args .size) ≡ begun .args .size - c .count-span .result)
-      × (c .count-span .result ≤ begun .args .size)
-  fresh-is = other-count (isHeld (lent begun)) (begun .args .address) (begun .args .size) (c .count-span .result) replayed-is
-
 returns-8 : tie.Need-returns-8
 unfolding fetchSays verdict
 returns-8 c =
     let w = c .before .before in
-    sym (past-six (w .before) ∙ rw (full w ∙ ap not (not-false (w .has-room .result) (c .before .if7 .left)), fresh-is c .0, replayed-is c))
+    c .counted .ensures ∙ sym (past-six (w .before) ∙ rw (full w ∙ ap not (not-false (w .has-room .result) (c .before .if7 .left))))
 
 pub judge-spec : {M : Type 1} → statement M
 judge-spec =
@@ -146,7 +132,5 @@ judge-spec =
     returns-6
     (λ c κs. (start c .pre .0, c .before .before .before .runs .ensures, fits c))
     returns-7
-    (λ c. omega (arith, fits (c .before .before)))
-    (λ c κs. (start (c .before .before) .pre .0, omega arith, fits (c .before .before)))
-    (λ c. fresh-is c .1)
+    (λ c κs. (start (c .before .before) .pre .0, fits (c .before .before)))
     returns-8)
