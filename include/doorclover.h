@@ -60,7 +60,7 @@
  *     fresh   0      begin 128      host write  48      frame read   168
  *     show   88      fetch 496      own write  216      frame write   48
  *                    end   176                          journal     3392
- *     of the byte map: fresh 16, begin 144, fetch 288, end 176
+ *     of the byte map: fresh 16, begin 144, fetch 312, end 176
  * DOORCLOVER_STACK and DOORCLOVER_JOURNAL_STACK are these with some room.
  *
  * Targets: archives for x86-64, AArch64 and RISC-V 64 (rv64gc, lp64d), little-endian, ELF, by the
