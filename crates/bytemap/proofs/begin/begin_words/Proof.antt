@@ -11,23 +11,31 @@ use Rattle.bytemap.specs.Begin.{beginSays, beginMap}
 use Rattle.bytemap.proofs.begin.begin_words.Statement.{statement}
 use Rattle.bytemap.proofs.begin.begin_words.Tie as tie
 
-abbrev lent : tie.Start → Map
-lent s = mapOf (now (s .args .flag)) (now (s .args .words)) (now (s .args .values))
+-- what the judge of the lent map said
+module _ (j : tie.After-judge) where
+  abbrev start : tie.Start
+  start = j .before .before .before .before .before .before
+
+  abbrev lent : Map
+  lent = mapOf (now (start .args .flag)) (now (start .args .words)) (now (start .args .values))
 
 returns : tie.Need-returns
 unfolding accepted beginMap
 returns c =
-    let says = says-of beginReply (c .before .before .before .judge .ensures) (c .before .answer .given .1) in
-    let no : accepted (beginSays (lent (c .before .before .before .before .before .before .before .before .before))) ≡ false = ap accepted says in
+    let j = c .before .before .before in
+    let says = says-of beginReply (j .judge .ensures) (c .before .answer .given .1) in
+    let no : accepted (beginSays (lent j)) ≡ false = ap accepted says in
     record { answer = sym says; map = rw no }
 
 returns-2 : tie.Need-returns-2
 unfolding accepted beginMap
 returns-2 c =
-    let done = c .before .before .before .before .before .before .before .before in
-    let says = says-of beginReply (done .before .before .judge .ensures) (done .enum-told .given .1) in
-    let yes : accepted (beginSays (lent (done .before .before .before .before .before .before .before .before))) ≡ true = ap accepted says in
-    record { answer = sym says; map = rw yes (c .before .before .before .before .reset .ensures) }
+    let cleared = c .before .before .before .before in
+    let done = cleared .before .before .before .before in
+    let j = done .before .before in
+    let says = says-of beginReply (j .judge .ensures) (done .enum-told .given .1) in
+    let yes : accepted (beginSays (lent j)) ≡ true = ap accepted says in
+    record { answer = sym says; map = rw yes (cleared .reset .ensures) }
 
 pub begin-words-spec : {M : Type 1} → statement M
 begin-words-spec =

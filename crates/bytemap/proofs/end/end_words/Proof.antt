@@ -11,23 +11,31 @@ use Rattle.bytemap.specs.End.{endSays, endMap}
 use Rattle.bytemap.proofs.end.end_words.Statement.{statement}
 use Rattle.bytemap.proofs.end.end_words.Tie as tie
 
-abbrev lent : tie.Start → Map
-lent s = mapOf (now (s .args .flag)) (now (s .args .words)) (now (s .args .values))
+-- what the judge of the lent map said
+module _ (j : tie.After-judge) where
+  abbrev start : tie.Start
+  start = j .before .before .before .before .before .before
+
+  abbrev lent : Map
+  lent = mapOf (now (start .args .flag)) (now (start .args .words)) (now (start .args .values))
 
 returns : tie.Need-returns
 unfolding accepted endMap
 returns c =
-    let says = says-of endReply (c .before .before .before .judge .ensures) (c .before .answer .given .1) in
-    let no : accepted (endSays (lent (c .before .before .before .before .before .before .before .before .before))) ≡ false = ap accepted says in
+    let j = c .before .before .before in
+    let says = says-of endReply (j .judge .ensures) (c .before .answer .given .1) in
+    let no : accepted (endSays (lent j)) ≡ false = ap accepted says in
     record { answer = sym says; map = rw no }
 
 returns-2 : tie.Need-returns-2
 unfolding accepted endMap
 returns-2 c =
-    let done = c .before .before .before .before .before .before .before .before in
-    let says = says-of endReply (done .before .before .before .judge .ensures) (done .before .answer2 .given .1) in
-    let yes : accepted (endSays (lent (done .before .before .before .before .before .before .before .before .before))) ≡ true = ap accepted says in
-    record { answer = sym says; map = rw yes (c .before .before .before .before .reset .ensures) }
+    let cleared = c .before .before .before .before in
+    let done = cleared .before .before .before .before in
+    let j = done .before .before .before in
+    let says = says-of endReply (j .judge .ensures) (done .before .answer2 .given .1) in
+    let yes : accepted (endSays (lent j)) ≡ true = ap accepted says in
+    record { answer = sym says; map = rw yes (cleared .reset .ensures) }
 
 pub end-words-spec : {M : Type 1} → statement M
 end-words-spec =

@@ -23,8 +23,9 @@ module _ (c : tie.After-count-span) where
       let size : start .args .address + start .args .size - start .args .address ≡ start .args .size = omega arith in
       c .count-span .ensures ∙ ap (λ (n : ℕ). count (isSet (now (start .args .words))) (span (start .args .address) n)) size
 
-  fresh-is : (count (λ x. not (isSet (now (start .args .words)) x)) (span (start .args .address) (start .args .size)) ≡ start .args .size - c .count-span .result)
-      × (c .count-span .result ≤ start .args .size)
+  fresh-is : let a = start .args in
+      (count (λ x. not (isSet (now (a .words)) x)) (span (a .address) (a .size)) ≡ a .size - c .count-span .result)
+      × (c .count-span .result ≤ a .size)
   fresh-is = other-count (isSet (now (start .args .words))) (start .args .address) (start .args .size) (c .count-span .result) replayed-is
 
 returns : tie.Need-returns

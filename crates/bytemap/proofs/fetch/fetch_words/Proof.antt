@@ -14,43 +14,48 @@ use Rattle.bytemap.proofs.Fitting.{fetched}
 use Rattle.bytemap.proofs.fetch.fetch_words.Statement.{statement}
 use Rattle.bytemap.proofs.fetch.fetch_words.Tie as tie
 
-module _ (s : tie.Start) where
+-- what the judge of the lent map said
+module _ (j : tie.After-judge) where
+  abbrev start : tie.Start
+  start = j .before .before .before .before .before .before .before
+
   abbrev lent : Map
-  lent = mapOf (s .args .flag) (now (s .args .words)) (now (s .args .values))
+  lent = mapOf (start .args .flag) (now (start .args .words)) (now (start .args .values))
 
   abbrev said : Reply
-  said = fetchSays lent (length (now (s .args .window))) (length (now (s .args .destination))) (s .args .address) (s .args .size)
+  said = fetchSays lent (length (now (start .args .window))) (length (now (start .args .destination))) (start .args .address) (start .args .size)
 
 -- an answer that is no refusal: the span fits
 module _ (e : tie.After-known-told2) where
-  abbrev start : tie.Start
-  start = e .before .before .before .before .before .before .before .before .before .before
+  abbrev judged : tie.After-judge
+  judged = e .before .before .before
 
-  yes : accepted (said start) ≡ true
+  yes : accepted (said judged) ≡ true
   unfolding accepted
-  yes = ap accepted (says-of fetchReply (e .before .before .before .judge .ensures) (e .before .answer2 .given .1))
+  yes = ap accepted (says-of fetchReply (judged .judge .ensures) (e .before .answer2 .given .1))
 
-  fits : let a = start .args in
+  fits : let a = start judged .args in
       Fits (length (now (a .words))) (length (now (a .values))) (length (now (a .window))) (length (now (a .destination))) (a .address) (a .size)
-  fits = fetched (lent start) _ _ _ _ (start .pre .0) (start .pre .1) yes
+  fits = fetched (lent judged) _ _ _ _ (start judged .pre .0) (start judged .pre .1) yes
 
 returns : tie.Need-returns
 unfolding accepted fetchMap fetchDest
 returns c =
-    let s = c .before .before .before .before .before .before .before .before .before .before in
-    let says = says-of fetchReply (c .before .before .before .judge .ensures) (c .before .answer .given .1) in
-    let no : accepted (said s) ≡ false = ap accepted says in
+    let j = c .before .before .before in
+    let says = says-of fetchReply (j .judge .ensures) (c .before .answer .given .1) in
+    let no : accepted (said j) ≡ false = ap accepted says in
     record { answer = sym says; map = rw no; delivered = rw no }
 
 returns-2 : tie.Need-returns-2
 unfolding fetchMap fetchDest
 returns-2 c =
-    let done = c .before .before .before .before .before .before .deliver in
-    let e = c .before .before .before .before .before .before .before .before .before .before in
+    let delivered = c .before .before .before .before .before .before in
+    let e = delivered .before .before .before .before in
+    let done = delivered .deliver .ensures in
     record {
-      answer = sym (says-of fetchReply (e .before .before .before .judge .ensures) (e .before .answer2 .given .1));
-      map = rw (yes e) (ap₂ (mapOf (start e .args .flag)) (done .ensures .bits) (done .ensures .held));
-      delivered = rw (yes e) (done .ensures .delivered);
+      answer = sym (says-of fetchReply (judged e .judge .ensures) (e .before .answer2 .given .1));
+      map = rw (yes e) (ap₂ (mapOf (start (judged e) .args .flag)) (done .bits) (done .held));
+      delivered = rw (yes e) (done .delivered);
     }
 
 pub fetch-words-spec : {M : Type 1} → statement M
