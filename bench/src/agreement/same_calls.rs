@@ -9,6 +9,7 @@ use plain::state::{Record, STORE};
 use sampling::generator::Generator;
 use sampling::spans;
 
+use super::source::{Source, Spans};
 use crate::answer::Answer;
 use crate::call::{make, Call, Last};
 use crate::cases::{Case, Subject};
@@ -48,6 +49,18 @@ const STORES: [usize; 3] = [0, 32_768, 32_769];
 const DESTINATIONS: [usize; 3] = [0, 20, 4_096];
 const ON_EACH: usize = 300;
 
+/// The ways in which lists choose their spans.
+const SPANS: [Spans; 8] = [
+    (spans::any_size, WINDOW as u64),
+    (spans::touching, 600),
+    (spans::at_the_end, WINDOW as u64),
+    (spans::overlapping, 2_000),
+    (spans::medium, 3_000),
+    (spans::large, 9_000),
+    (spans::every_other, 260),
+    (spans::small, 1_500),
+];
+
 /// The call at which something is not the same.
 pub fn difference(cases: &[Case]) -> Option<String> {
     let of_case = |case: &Case| match &case.subject {
@@ -58,8 +71,8 @@ pub fn difference(cases: &[Case]) -> Option<String> {
         Subject::Journals { .. } => None,
     };
     let of_seed = |seed| {
-        let mut source = Source::new(seed);
-        Scene::default().differ((0..CALLS).map(|_| source.call()))
+        let mut source = Source::new(seed, &SPANS);
+        Scene::default().differ((0..CALLS).map(|_| any_call(&mut source)))
     };
     cases
         .iter()
@@ -149,7 +162,7 @@ struct Pair {
 impl Pair {
     /// Makes a random call on both, and tells what is not the same.
     fn step(&mut self, source: &mut Source) -> Option<String> {
-        let call = source.call();
+        let call = any_call(source);
         let answer = self.proved.make(call);
         let same = self.checked.make(call) == answer && self.proved.is_like(&mut self.checked);
         (!same).then(|| format!("{call:?}, answered with {answer:?}"))
@@ -170,7 +183,7 @@ impl Pair {
 
 /// A list, then a change of the state that may break it, and calls on that.
 fn changed(seed: u64) -> Option<String> {
-    let mut source = Source::new(seed);
+    let mut source = Source::new(seed, &SPANS);
     let mut pair = Pair::default();
     let before = (0..BEFORE).find_map(|_| pair.step(&mut source));
     let mut words = pair.proved.cache.words();
@@ -199,7 +212,7 @@ fn with_mark(mark: u16) -> Option<String> {
 }
 
 fn on_words(words: &Words) -> Option<String> {
-    let mut source = Source::new(0);
+    let mut source = Source::new(0, &SPANS);
     let mut pair = Pair::default();
     pair.set_words(words);
     (0..AFTER).find_map(|_| pair.step(&mut source))
@@ -208,7 +221,7 @@ fn on_words(words: &Words) -> Option<String> {
 /// Lists on buffers of other lengths, in a state that calls of the usual
 /// lengths have left.
 fn other_lengths() -> Option<String> {
-    let mut source = Source::new(0);
+    let mut source = Source::new(0, &SPANS);
     let mut pair = Pair::default();
     let mut step = |pair: &mut Pair| pair.step(&mut source);
     for window in WINDOWS {
@@ -245,71 +258,36 @@ fn change(words: &mut Words, numbers: &mut Generator) {
     }
 }
 
-/// Where calls are drawn from, with one way to choose spans.
-struct Source {
-    numbers: Generator,
-    way: u64,
+/// A call of any kind, mostly on two commands.
+fn any_call(source: &mut Source) -> Call {
+    let command = any_command(&mut source.numbers);
+    let (address, length) = source.span();
+    match source.numbers.below(60) {
+        0 => Call::End { command },
+        1..=5 => Call::Begin { command },
+        6..=7 => Call::HostWrite { address, length },
+        8..=9 => Call::OwnWrite {
+            command,
+            address,
+            length,
+        },
+        10..=11 => Call::Show {
+            command,
+            index: source.numbers.below(20) as usize,
+        },
+        _ => Call::Fetch {
+            command,
+            address,
+            length,
+        },
+    }
 }
 
-impl Source {
-    fn new(seed: u64) -> Source {
-        Source {
-            numbers: Generator::new(seed),
-            way: seed % 8,
-        }
-    }
-
-    /// A call of any kind, mostly on two commands.
-    fn call(&mut self) -> Call {
-        let command = self.command();
-        let (address, length) = self.span();
-        match self.numbers.below(60) {
-            0 => Call::End { command },
-            1..=5 => Call::Begin { command },
-            6..=7 => Call::HostWrite { address, length },
-            8..=9 => Call::OwnWrite {
-                command,
-                address,
-                length,
-            },
-            10..=11 => Call::Show {
-                command,
-                index: self.numbers.below(20) as usize,
-            },
-            _ => Call::Fetch {
-                command,
-                address,
-                length,
-            },
-        }
-    }
-
-    fn command(&mut self) -> usize {
-        match self.numbers.below(40) {
-            0 => 8,
-            1 => usize::MAX,
-            2..=5 => self.numbers.below(8) as usize,
-            _ => self.numbers.below(2) as usize,
-        }
-    }
-
-    /// A span, a few of them with a senseless address.
-    fn span(&mut self) -> (usize, usize) {
-        let numbers = &mut self.numbers;
-        let (address, length) = match self.way {
-            0 => spans::any_size(numbers, WINDOW as u64),
-            1 => spans::touching(numbers, 600),
-            2 => spans::at_the_end(numbers, WINDOW as u64),
-            3 => spans::overlapping(numbers, 2_000),
-            4 => spans::medium(numbers, 3_000),
-            5 => spans::large(numbers, 9_000),
-            6 => spans::every_other(numbers, 260),
-            _ => spans::small(numbers, 1_500),
-        };
-        let address = match numbers.below(60) {
-            0 => usize::MAX - address as usize,
-            _ => address as usize,
-        };
-        (address, length as usize)
+fn any_command(numbers: &mut Generator) -> usize {
+    match numbers.below(40) {
+        0 => 8,
+        1 => usize::MAX,
+        2..=5 => numbers.below(8) as usize,
+        _ => numbers.below(2) as usize,
     }
 }

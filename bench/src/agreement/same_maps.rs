@@ -9,6 +9,7 @@ use plain::byte_map::{ByteMap as Plain, ADDRESSES, WORDS};
 use sampling::generator::Generator;
 use sampling::spans;
 
+use super::source::{Source, Spans};
 use crate::answer::Answer;
 use crate::call;
 use crate::cases::{Case, Group, Subject};
@@ -26,6 +27,17 @@ const AFTER: usize = 8;
 
 /// The command that the record engine serves.
 const COMMAND: usize = 5;
+
+/// The ways in which lists choose their spans.
+const SPANS: [Spans; 7] = [
+    (spans::any_size, ADDRESSES as u64),
+    (spans::touching, 600),
+    (spans::at_the_end, ADDRESSES as u64),
+    (spans::overlapping, 2_000),
+    (spans::medium, ADDRESSES as u64),
+    (spans::every_other, 260),
+    (spans::small, 1_500),
+];
 
 /// The call at which something is not the same.
 pub fn difference(cases: &[Case]) -> Option<String> {
@@ -108,6 +120,15 @@ impl Scene {
         }
     }
 
+    /// The same with any destination, most often with enough room, and any bytes.
+    fn lend_any(&mut self, window: usize, numbers: &mut Generator) {
+        let room = match numbers.below(20) {
+            0 => numbers.below(40) as usize,
+            _ => 4_200,
+        };
+        self.lend(window, room, numbers.below(256) as u8);
+    }
+
     fn set_parts(&mut self, parts: &ByteMap) {
         self.proved.map.set_parts(parts);
         self.checked.map.set_parts(parts);
@@ -180,30 +201,30 @@ fn of_case(case: &Case) -> Option<String> {
 
 /// A list from the fresh map in windows that the record engine can be given too.
 fn from_fresh(seed: u64) -> Option<String> {
-    let mut source = Source::new(seed);
+    let mut source = Source::new(seed, &SPANS);
     let mut scene = Scene::fresh();
     (0..CALLS).find_map(|_| {
         let window = match source.numbers.below(10) {
             0 => source.numbers.below(ADDRESSES as u64 + 1) as usize,
             _ => ADDRESSES,
         };
-        scene.lend(window, source.room(), source.byte());
-        scene.step_beside_records(source.call()).err()
+        scene.lend_any(window, &mut source.numbers);
+        scene.step_beside_records(any_call(&mut source)).err()
     })
 }
 
 /// A map of any parts, and calls on it with windows and destinations of any
 /// length.
 fn on_any_map(seed: u64) -> Option<String> {
-    let mut source = Source::new(seed);
+    let mut source = Source::new(seed, &SPANS);
     let mut scene = Scene::fresh();
     scene.set_parts(&any_map(&mut source.numbers));
     (0..AFTER).find_map(|_| {
         let windows = [ADDRESSES, 0, 300, ADDRESSES + 1, 65_537];
         let place = source.numbers.below(16) as usize;
         let window = windows.get(place).unwrap_or(&ADDRESSES);
-        scene.lend(*window, source.room(), source.byte());
-        scene.step(source.call()).err()
+        scene.lend_any(*window, &mut source.numbers);
+        scene.step(any_call(&mut source)).err()
     })
 }
 
@@ -229,58 +250,11 @@ fn any_map(numbers: &mut Generator) -> ByteMap {
     map
 }
 
-/// Where calls are drawn from, with one way to choose spans.
-struct Source {
-    numbers: Generator,
-    way: u64,
-}
-
-impl Source {
-    fn new(seed: u64) -> Source {
-        Source {
-            numbers: Generator::new(seed),
-            way: seed % 7,
-        }
-    }
-
-    fn byte(&mut self) -> u8 {
-        self.numbers.below(256) as u8
-    }
-
-    /// The room of a destination, mostly enough.
-    fn room(&mut self) -> usize {
-        match self.numbers.below(20) {
-            0 => self.numbers.below(40) as usize,
-            _ => 4_200,
-        }
-    }
-
-    fn call(&mut self) -> Call {
-        let (address, length) = self.span();
-        match self.numbers.below(40) {
-            0 => Call::End,
-            1..=3 => Call::Begin,
-            _ => Call::Fetch { address, length },
-        }
-    }
-
-    /// A span, a few of them with a senseless address.
-    fn span(&mut self) -> (usize, usize) {
-        let numbers = &mut self.numbers;
-        let addresses = ADDRESSES as u64;
-        let (address, length) = match self.way {
-            0 => spans::any_size(numbers, addresses),
-            1 => spans::touching(numbers, 600),
-            2 => spans::at_the_end(numbers, addresses),
-            3 => spans::overlapping(numbers, 2_000),
-            4 => spans::medium(numbers, addresses),
-            5 => spans::every_other(numbers, 260),
-            _ => spans::small(numbers, 1_500),
-        };
-        let address = match numbers.below(60) {
-            0 => usize::MAX - address as usize,
-            _ => address as usize,
-        };
-        (address, length as usize)
+fn any_call(source: &mut Source) -> Call {
+    let (address, length) = source.span();
+    match source.numbers.below(40) {
+        0 => Call::End,
+        1..=3 => Call::Begin,
+        _ => Call::Fetch { address, length },
     }
 }

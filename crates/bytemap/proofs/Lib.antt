@@ -1,3 +1,1 @@
-pub mod Counting
-pub mod Fitting
 pub mod Claims

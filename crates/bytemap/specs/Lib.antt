@@ -4,4 +4,3 @@ pub mod Fetch
 pub mod End
 pub mod Runs
 pub mod Claims
-pub mod Delivery

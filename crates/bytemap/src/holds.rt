@@ -21,7 +21,7 @@ fn open_or_empty(flag: u64, words: &[u64]) -> bool
 }
 
 // Whether the map holds together; the caller has counted its runs.
-pub(crate) fn holds(flag: u64, words: &[u64], values: &[u8], runs: usize) -> bool
+pub fn holds(flag: u64, words: &[u64], values: &[u8], runs: usize) -> bool
     requires { ⌜ (length (now words) ≡ wordLimit) × (length (now values) ≡ mapLimit) × (runs ≡ length (runsFrom (isSet (now words)) 0 mapLimit)) ⌝ }
     ensures { λ r. ⌜ r ≡ holds (mapOf flag (now (words .entry)) (now (values .entry))) ⌝ }
 {

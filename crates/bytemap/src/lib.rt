@@ -5,8 +5,7 @@ ghost use Rattle.bytemap.specs.Map.{fresh, mapOf};
 
 pub mod begin;
 pub mod end;
-pub mod fetch;
-mod holds;
+pub mod holds;
 mod reset;
 
 pub struct ByteMap {

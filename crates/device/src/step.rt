@@ -105,7 +105,7 @@ pub(crate) fn make(
             address,
             ..
         } => Made {
-            answer: written(cache::own_write::own_write(state, window, command, address, bytes)),
+            answer: written(ownwrite::own_write(state, window, command, address, bytes)),
             delivered: 0,
         },
     }

@@ -81,7 +81,7 @@ pub extern "C" fn doorclover_own_write(
 ) -> Written
     ensures { λ r. ⌜ OwnWrites (now (state .entry)) (now (store .entry)) (now (window .entry)) command address (now (bytes .entry)) r (now (state .exit)) (now (store .exit)) (now (window .exit)) ⌝ }
 {
-    write_reply(cache::own_write::own_write(state, window, command, address, bytes))
+    write_reply(ownwrite::own_write(state, window, command, address, bytes))
 }
 
 #[no_mangle]

@@ -47,7 +47,7 @@ pub extern "C" fn doorclover_map_fetch(
 ) -> Fetched
     ensures { λ r. ⌜ MapFetches (mapOf (now (flag .entry)) (now (words .entry)) (now (values .entry))) (now (window .entry)) (now (destination .entry)) address size r (mapOf (now (flag .entry)) (now (words .exit)) (now (values .exit))) (now (destination .exit)) ⌝ }
 {
-    fetch_reply(bytemap::fetch::fetch(flag, words, values, window, destination, address, size))
+    fetch_reply(mapfetch::fetch(flag, words, values, window, destination, address, size))
 }
 
 #[no_mangle]

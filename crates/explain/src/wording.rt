@@ -62,7 +62,7 @@ pub(crate) fn put_refused(line: &mut [u8], at: usize, refusal: Refusal) -> usize
     let next = put(line, at, b": refused (");
     let next = put_decimal(line, next, refusal.number() as usize);
     let next = put(line, next, b"): ");
-    log::put_reason(line, next, refusal)
+    reasons::put_reason(line, next, refusal)
 }
 
 // What an accepted step did. The state is given as it was before, and as it is.

@@ -43,7 +43,7 @@ fn print_frame(
     requires { ⌜ length (now line) ≡ 8448 ⌝ }
     ensures { λ r. ⌜ Shows (deviceOf (now (state .entry)) (now (store .entry)) (now (window .entry)) (now (destination .entry))) number (now (frame .entry)) (now (line .entry)) r (now (state .exit)) (now (store .exit)) (now (window .exit)) (now (destination .exit)) (now (line .exit)) ⌝ }
 {
-    let logged = journal::log_frame(number, frame, state, store, window, destination, line, 0);
+    let logged = entry::log_frame(number, frame, state, store, window, destination, line, 0);
     let size = logged.next;
     Shown {
         taken: logged.taken,

@@ -1,4 +1,3 @@
-pub mod Worked
 pub mod Replaced
 pub mod Effects
 pub mod Isolation
@@ -18,4 +17,3 @@ pub mod Meet
 pub mod Alike
 pub mod Values
 pub mod EqualRuns
-pub mod Uses

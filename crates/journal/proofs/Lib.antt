@@ -4,5 +4,3 @@ pub mod Writes
 pub mod Readings
 pub mod EqualLogs
 pub mod Fits
-pub mod Worked
-pub mod Uses

@@ -10,7 +10,6 @@ use Rattle.cache.specs.Runs.{start}
 use Rattle.octets.specs.Lists.{count}
 use Rattle.octets.specs.Text.{Puts}
 use Rattle.log.specs.Line.{lineOf}
-use Rattle.journal.specs.declared.line.Logged.{Logged}
 use Rattle.journal.specs.declared.run.Replayed.{Replayed}
 use Rattle.device.specs.Step.{Device, deviceOf}
 use Rattle.device.specs.Frame.{isReadable, takenUp, letterOf, frameSays, frameLeaves, frameDelivers}
@@ -63,13 +62,6 @@ wasRefused e = e .readable && not (accepted (e .reply))
 unfoldable pub endsEarly : List Entry → Bool
 endsEarly [] = false
 endsEarly (e ∷ es) = not (e .readable) || endsEarly es
-
--- one frame carried out by the code, and its line put into a buffer
-pub record Logs (d : Device) (number : ℕ) (frame : List ℕ) (out : List ℕ) (at : ℕ) (r : Logged) (words′ store′ window′ dest′ out′ : List ℕ) : Type 0 where
-  pub taken : r .taken ≡ takenUp frame
-  pub accepted : r .accepted ≡ accepted (frameSays d frame)
-  pub leaves : deviceOf words′ store′ window′ dest′ ≡ frameLeaves d frame
-  pub line : Puts out at (lineOf number (letterOf frame) (frameSays d frame) (frameDelivers d frame)) (r .next) out′
 
 -- a journal run by the code: the log is put into the output as far as it fits
 pub record Replays (d : Device) (input : List ℕ) (out : List ℕ) (r : Replayed) (words′ store′ window′ dest′ out′ : List ℕ) : Type 0 where

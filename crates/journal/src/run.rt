@@ -1,7 +1,7 @@
 // A whole journal is run, and its log is made.
 ghost use Rattle.device.specs.Step.{deviceOf};
 ghost use Rattle.journal.specs.Run.{Replays};
-use crate::line::log_frame;
+use entry::log_frame;
 use octets::one_if;
 use state::CacheState;
 

@@ -21,7 +21,7 @@ pub(crate) fn put_fault(note: &mut [u8], at: usize, fault: Fault) -> usize {
 
 // The reason in words, and its number in brackets.
 pub(crate) fn put_refusal(note: &mut [u8], at: usize, refusal: Refusal) -> usize {
-    let next = log::put_reason(note, at, refusal);
+    let next = reasons::put_reason(note, at, refusal);
     let next = put(note, next, b" (");
     let next = text::put_decimal(note, next, refusal.number() as usize);
     put(note, next, b")")

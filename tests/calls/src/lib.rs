@@ -26,6 +26,8 @@ pub mod expected;
 pub mod file;
 pub mod library;
 pub mod line;
+#[cfg(test)]
+mod lists;
 pub mod map_lists;
 pub mod maps;
 pub mod pair;

@@ -296,20 +296,13 @@ impl Draft {
 #[cfg(test)]
 mod tests {
     use super::*;
-    use crate::file::read;
+    use crate::lists;
     use crate::sums::carry_out;
     use crate::tally::{Tally, CAN_APPLY};
 
     #[test]
     fn a_list_has_its_calls_and_is_always_the_same() {
-        for seed in [0, 70, u64::MAX] {
-            let items = list(seed);
-            let calls = items
-                .iter()
-                .filter(|item| matches!(item.line, Line::Call(..)));
-            assert_eq!(calls.count() as u64, CALLS);
-            assert_eq!(items, list(seed));
-        }
+        lists::has_its_calls(list, CALLS);
     }
 
     #[test]
@@ -331,13 +324,6 @@ mod tests {
 
     #[test]
     fn the_lines_of_a_list_can_be_read() {
-        for seed in 0..63 {
-            let items = list(seed);
-            let lines: Vec<String> = items.iter().map(|item| item.line.to_string()).collect();
-            let found = read(&lines.join("\n")).unwrap();
-            let found: Vec<Line> = found.into_iter().map(|item| item.line).collect();
-            let expected: Vec<Line> = items.into_iter().map(|item| item.line).collect();
-            assert_eq!(found, expected);
-        }
+        lists::can_be_read(list, 63);
     }
 }

@@ -11,7 +11,7 @@ use denote.Ref.{now}
 use borrow.Author.Needs.{needs}
 use Rattle.device.specs.Step.{Device, deviceOf}
 use Rattle.device.specs.Frame.{isReadable}
-use Rattle.journal.specs.Run.{Logs}
+use Rattle.entry.specs.Logs.{Logs}
 use Rattle.journal.proofs.Running.{Running, running-start, running-turn, taken-read, taken-unread, replays-unreadable, replays-all}
 use Rattle.journal.proofs.run.replay.Statement.{statement}
 use Rattle.journal.proofs.run.replay.Tie as tie

@@ -1,0 +1,4 @@
+pub mod Calls
+pub mod Rules
+pub mod Log
+pub mod Writes
