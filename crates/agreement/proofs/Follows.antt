@@ -22,7 +22,8 @@ use Rattle.bits.proofs.Words.{words-set, ones-of-words, length-words}
 use Rattle.bytemap.specs.Map.{Map, isOpen, isHeld, heldCount, runsOf, cleared, isEmpty, holds}
 use Rattle.bytemap.specs.Fetch.{heldThen, runsThen, sees, seen}
 use Rattle.history.specs.Firsts.{Value, none, first, orElse, isKnown, recall}
-use Rattle.agreement.proofs.Spans.{all-pass, runs-none, overwrite-span}
+use Rattle.bytemap.proofs.Spans.{overwrite-span}
+use Rattle.agreement.proofs.Spans.{all-pass, runs-none}
 
 pub record Follows (m : Map) (opened : Bool) (known : ℕ → Value) : Type 0 where
   pub same : isOpen m ≡ opened

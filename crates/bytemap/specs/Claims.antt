@@ -1,18 +1,20 @@
 -- The claims about the byte map's calls, whatever map they are given (request F-2 of 02, the agreed changes; docs/RULES.md has its rules).
-use Prim.Native.Nat.{ℕ, _≤_, _<_}
+use Prim.Native.Nat.{ℕ, _-_, _≤_, _<_}
 use mathlib.Core.Path.{_≡_}
 use mathlib.Core.List.{List, [], _∷_}
-use mathlib.Core.Bool.{true, false}
+use mathlib.Core.Bool.{Bool, true, false, not}
 use mathlib.Core.Logic.{_↔_, _≢_}
 use lib.ListN.{length, getD}
+use Rattle.octets.specs.Lists.{all}
 use Rattle.state.specs.Limits.{recordLimit, transferLimit}
+use Rattle.state.specs.Records.{inSpan}
 use Rattle.state.specs.Verdict.{refused, accepted, keepsTo, Check, numbers}
 use Rattle.bits.specs.Bits.{mapLimit}
 use Rattle.bytemap.specs.Map.{Map, isOpen, isHeld, runsOf, holds}
 use Rattle.bytemap.specs.Begin.{beginChecks}
 use Rattle.bytemap.specs.Fetch.{fetchChecks}
 use Rattle.bytemap.specs.End.{endChecks}
-use Rattle.bytemap.specs.Runs.{Call, begin, fetch, end, says, after, destGiven, destAfter}
+use Rattle.bytemap.specs.Runs.{Call, begin, fetch, end, says, after, destGiven, destAfter, delivers, along, ran}
 
 -- the numbers that each call can give, in the order in which they are judged: 30 stands where the record engine has 7, and 6 and 8 are in no
 -- list
@@ -59,3 +61,22 @@ abbrev pub ThirtyGiven : Type 0
 ThirtyGiven =
     (m : Map) (a n : ℕ) (dest window : List ℕ)
     → (says m (fetch a n dest window) ≡ refused 30) ↔ ((n ≤ transferLimit) × (mapLimit < length window))
+
+-- does this call end the command?
+abbrev pub endsHere : Map → Call → Bool
+endsHere m begin = false
+endsHere m (fetch a n dest window) = false
+endsHere m end = accepted (says m end)
+
+-- The order's question, of the byte map: is the count that was checked the count that is used? Where two fetches of an address are accepted and
+-- no end is accepted between them, both deliver the same byte there, whatever the windows have become and whatever map was lent at first, so
+-- long as it has its 4,096 values. (A begin between them is refused, since the command is open.)
+abbrev pub MapSameByte : Type 0
+MapSameByte =
+    (m : Map) (a n : ℕ) (dest window : List ℕ) (between : List Call) (a′ n′ : ℕ) (dest′ window′ : List ℕ) (x : ℕ) →
+    let one = fetch a n dest window in
+    let other = fetch a′ n′ dest′ window′ in
+    let later = ran (after m one) between in
+    length (m .values) ≡ mapLimit → inSpan a n x ≡ true → inSpan a′ n′ x ≡ true
+    → accepted (says m one) ≡ true → all not (along endsHere (after m one) between) ≡ true → accepted (says later other) ≡ true
+    → getD (delivers m one) (x - a) 0 ≡ getD (delivers later other) (x - a′) 0

@@ -6,6 +6,7 @@ use native.Mathlib.Nat.{sub-zero, not-suc-le-zero}
 use mathlib.Core.Path.{_≡_, refl, ap, sym, subst, _∙_}
 use mathlib.Core.List.{List, [], _∷_, _++_, append-nil, append-assoc}
 use mathlib.Core.Bool.{Bool, true, false, false≢true, not, cond}
+use mathlib.Core.Logic.{_≢_}
 use lib.ListN.{length, drop, getD, length-drop, drop-of-length-le}
 use lib.Seq.{drop-drop}
 use Rattle.state.specs.Verdict.{Reply, refused, replied, accepted, numbersOf}
@@ -41,6 +42,21 @@ taken-unread frame e = go (readSays frame) e
     go : (r : Reply) → accepted r ≡ false → getD (numbersOf r) 0 0 ≡ 0
     go (refused n) e = refl
     go (replied ns) e = absurd (false≢true (sym e))
+
+-- so a frame that took up bytes was read, and one that took up none was not
+pub some-read : (frame : List ℕ) {taken : ℕ} → taken ≡ takenUp frame → taken ≢ 0 → isReadable frame ≡ true
+some-read frame e some = go (isReadable frame) refl
+  where
+    go : (b : Bool) → isReadable frame ≡ b → b ≡ true
+    go true u = refl
+    go false u = absurd (some (e ∙ taken-unread frame u))
+
+pub none-unread : (frame : List ℕ) {taken : ℕ} → taken ≡ takenUp frame → taken ≡ 0 → isReadable frame ≡ false
+none-unread frame e none = go (isReadable frame) refl
+  where
+    go : (b : Bool) → isReadable frame ≡ b → b ≡ false
+    go true r = absurd (omega (arith, taken-read frame r .some, e, none))
+    go false r = refl
 
 -- no more than there are
 pub taken-most : (frame : List ℕ) → takenUp frame ≤ length frame
@@ -223,7 +239,9 @@ module _ (d₀ : Device) (input out₀ : List ℕ) where
 
         ended-leaves : frameLeaves d frame ≡ journalLeaves d₀ input
         unfolding frameLeaves
-        ended-leaves = rw e (sym (left-unread (length input - (number + 1)) d frame some-bytes e)) ∙ ap (λ (k : ℕ). leftIn k d frame) (sym steps) ∙ R .left
+        ended-leaves =
+            rw e (sym (left-unread (length input - (number + 1)) d frame some-bytes e))
+            ∙ ap (λ (k : ℕ). leftIn k d frame) (sym steps) ∙ R .left
 
         no-good : count wasCarried (entryOf d frame ∷ []) ≡ 0
         unfolding count
@@ -248,7 +266,8 @@ module _ (d₀ : Device) (input out₀ : List ℕ) where
 
         pub replays-unreadable :
             {words′ store′ window′ dest′ : List ℕ} → deviceOf words′ store′ window′ dest′ ≡ frameLeaves d frame
-            → Replays d₀ input out₀ (record { carried = carried; refused = number - carried; early = true; written = next }) words′ store′ window′ dest′ out′
+            → Replays d₀ input out₀ (record { carried = carried; refused = number - carried; early = true; written = next })
+            words′ store′ window′ dest′ out′
         replays-unreadable left = record {
           log = ended-log;
           leaves = left ∙ ended-leaves;
@@ -285,5 +304,6 @@ module _ (d₀ : Device) (input out₀ : List ℕ) where
 
       pub replays-all :
           {words′ store′ window′ dest′ : List ℕ} → deviceOf words′ store′ window′ dest′ ≡ d
-          → Replays d₀ input out₀ (record { carried = carried; refused = number - carried; early = false; written = written }) words′ store′ window′ dest′ out
+          → Replays d₀ input out₀ (record { carried = carried; refused = number - carried; early = false; written = written })
+          words′ store′ window′ dest′ out
       replays-all left = record { log = all-log; leaves = left ∙ all-leaves; carried = all-carried; refused = all-refused; early = all-early }

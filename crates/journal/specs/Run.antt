@@ -30,12 +30,15 @@ unfoldable pub entriesIn : (steps : ℕ) → Device → (input : List ℕ) → L
 entriesIn zero d input = []
 entriesIn (suc steps) d [] = []
 entriesIn (suc steps) d (x ∷ xs) =
-    entryOf d (x ∷ xs) ∷ elim (isReadable (x ∷ xs)) [ true ↦ entriesIn steps (frameLeaves d (x ∷ xs)) (drop (takenUp (x ∷ xs)) (x ∷ xs)) | false ↦ [] ]
+    let frame = x ∷ xs in
+    entryOf d frame ∷ elim (isReadable frame) [ true ↦ entriesIn steps (frameLeaves d frame) (drop (takenUp frame) frame) | false ↦ [] ]
 
 unfoldable pub leftIn : (steps : ℕ) → Device → (input : List ℕ) → Device
 leftIn zero d input = d
 leftIn (suc steps) d [] = d
-leftIn (suc steps) d (x ∷ xs) = elim (isReadable (x ∷ xs)) [ true ↦ leftIn steps (frameLeaves d (x ∷ xs)) (drop (takenUp (x ∷ xs)) (x ∷ xs)) | false ↦ d ]
+leftIn (suc steps) d (x ∷ xs) =
+    let frame = x ∷ xs in
+    elim (isReadable frame) [ true ↦ leftIn steps (frameLeaves d frame) (drop (takenUp frame) frame) | false ↦ d ]
 
 abbrev pub entries : Device → (input : List ℕ) → List Entry
 entries d input = entriesIn (length input) d input

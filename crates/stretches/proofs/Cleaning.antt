@@ -34,7 +34,8 @@ clean-moved f g l m a b (suc n) same =
     (ap f (up a) ∙ next .0 ∙ ap g (sym (up b)), ap (λ (k : ℕ). getD l k 0) (up a) ∙ next .1 ∙ ap (λ (k : ℕ). getD m k 0) (sym (up b)))))
 
 -- where all are held
-pub clean-full : (held : ℕ → Bool) (values : List ℕ) (a n : ℕ) → ((x : ℕ) → a ≤ x → x < a + n → held x ≡ true) → clean held values a n ≡ true
+pub clean-full :
+    (held : ℕ → Bool) (values : List ℕ) (a n : ℕ) → ((x : ℕ) → a ≤ x → x < a + n → held x ≡ true) → clean held values a n ≡ true
 unfolding all span
 clean-full held values a zero every = refl
 clean-full held values a (suc n) every =
@@ -50,7 +51,9 @@ all-append test (x ∷ xs) ys = ap (λ (b : Bool). test x && b) (all-append test
     go true c d = refl
     go false c d = refl
 
-pub clean-parts : (held : ℕ → Bool) (values : List ℕ) (a m n : ℕ) → clean held values a (m + n) ≡ (clean held values a m && clean held values (a + m) n)
+pub clean-parts :
+    (held : ℕ → Bool) (values : List ℕ) (a m n : ℕ)
+    → clean held values a (m + n) ≡ (clean held values a m && clean held values (a + m) n)
 clean-parts held values a m n =
     let test : ℕ → Bool = λ x. held x || eqb (getD values x 0) 0 in
     ap (all test) (span-append a m n) ∙ all-append test (span a m) (span (a + m) n)
@@ -94,7 +97,9 @@ clean-word-lent words values i =
     sym (ap₂ (λ (w k : ℕ). bit (getD words w 0) k) word place))
 
 -- part after part: one more that is clean, and one that is not
-pub clean-on : (held : ℕ → Bool) (values : List ℕ) (x k : ℕ) → clean held values 0 x ≡ true → clean held values x k ≡ true → clean held values 0 (x + k) ≡ true
+pub clean-on :
+    (held : ℕ → Bool) (values : List ℕ) (x k : ℕ) → clean held values 0 x ≡ true → clean held values x k ≡ true
+    → clean held values 0 (x + k) ≡ true
 clean-on held values x k before here = clean-parts held values 0 x k ∙ rw (before, zero-add x) here
 
 pub clean-off : (held : ℕ → Bool) (values : List ℕ) (x k n : ℕ) → x + k ≤ n → clean held values x k ≡ false → clean held values 0 n ≡ false

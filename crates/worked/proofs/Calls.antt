@@ -61,7 +61,8 @@ x ↦↦ v = record { address = x; value = v }
 
 infix 80 _↦↦_
 first-fetches : told firsts [] run
-    ≡ [] ∷ [] ∷ (0 ↦↦ 4 ∷ 1 ↦↦ 5 ∷ []) ∷ (0 ↦↦ 40 ∷ []) ∷ (2 ↦↦ 60 ∷ []) ∷ [] ∷ [] ∷ [] ∷ [] ∷ [] ∷ (0 ↦↦ 7 ∷ []) ∷ [] ∷ []
+    ≡ [] ∷ [] ∷ (0 ↦↦ 4 ∷ 1 ↦↦ 5 ∷ []) ∷ (0 ↦↦ 40 ∷ []) ∷ (2 ↦↦ 60 ∷ []) ∷ [] ∷ [] ∷ [] ∷ [] ∷ []
+    ∷ (0 ↦↦ 7 ∷ []) ∷ [] ∷ []
 unfolding run told remember memory firstsAmong firstsBy accepted span
 first-fetches = refl
 

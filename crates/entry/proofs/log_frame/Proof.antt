@@ -11,12 +11,25 @@ use Rattle.entry.proofs.log_frame.Statement.{statement}
 use Rattle.entry.proofs.log_frame.Tie as tie
 
 -- equal parts make equal lines
-equal-lines : (n : ℕ) {l l′ : ℕ} {r r′ : Reply} {t t′ : List ℕ} → l ≡ l′ → r ≡ r′ → t ≡ t′ → lineOf n l r t ≡ lineOf n l′ r′ t′
+equal-lines :
+    (n : ℕ) {l l′ : ℕ} {r r′ : Reply} {t t′ : List ℕ} → l ≡ l′ → r ≡ r′ → t ≡ t′ → lineOf n l r t ≡ lineOf n l′ r′ t′
 equal-lines n a b c = λ i. lineOf n (a i) (b i) (c i)
 
--- where the bytes delivered are lent to be shown
-abbrev carried : tie.After-put-line-arg2 → tie.After-carry-out
-carried c = c .before .before .before .before .before .before .before .before
+-- where the frame is carried out, with what is lent
+module _ (carried : tie.After-carry-out) where
+  abbrev lent : tie.After-slice-known4
+  lent = carried .before .before .before .before .before
+
+  abbrev start : tie.Start
+  start = lent .before .before .before .before .before
+
+-- where the bytes delivered are lent to be shown, with the buffers given back
+module _ (shown : tie.After-put-line-arg2) where
+  abbrev window-back : tie.After-slice-known6
+  window-back = shown .before .before .before .before
+
+  abbrev carried : tie.After-carry-out
+  carried = window-back .before .before .before .before
 
 slice-aggregate-put-line : tie.Need-slice-aggregate-put-line
 slice-aggregate-put-line c =
@@ -27,7 +40,7 @@ returns : tie.Need-returns
 returns c =
     let put = c .before .before .before in
     let shown = put .before in
-    let number = carried shown .before .before .before .before .before .before .before .before .before .before .args .number in
+    let number = start (carried shown) .args .number in
     let done = carried shown .carry-out .ensures in
     record {
       taken = done .taken;

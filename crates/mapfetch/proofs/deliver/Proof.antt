@@ -13,17 +13,33 @@ use Rattle.stretches.proofs.Taking.{lent-taken}
 use Rattle.mapfetch.proofs.deliver.Statement.{statement}
 use Rattle.mapfetch.proofs.deliver.Tie as tie
 
+-- where the bytes are taken, of what is lent whole
+module _ (took : tie.After-take) where
+  abbrev whole-values : tie.After-slice-known2
+  whole-values = took .before .before .before .before .before
+
+  abbrev start : tie.Start
+  start = whole-values .before .before
+
+-- where they are copied, from the values with what was taken
+module _ (copied : tie.After-copy-front) where
+  abbrev taken-in : tie.After-slice-known4
+  taken-in = copied .before .before .before .before
+
+  abbrev took : tie.After-take
+  took = taken-in .before .before
+
 returns : tie.Need-returns
 returns c =
-    let set = c .before .before .set-span in
-    let copied = c .before .before .before .before .before .before in
-    let took = copied .before .before .before .before .before .before in
-    let s = took .before .before .before .before .before .before .before in
+    let set = c .before .before in
+    let copied = set .before .before .before .before in
+    let took = took copied in
+    let s = start took in
     let a = s .args in
     let size : a .address + a .size - a .address ≡ a .size = omega arith in
     let whole : a .address + a .size ≤ length (now (a .values)) = omega (arith, s .pre .reach, s .pre .values) in
     record {
-      bits = set .ensures ∙ ap (λ (n : ℕ). wordsOf (λ x. isSet (now (a .words)) x || inSpan (a .address) n x)) size;
+      bits = set .set-span .ensures ∙ ap (λ (n : ℕ). wordsOf (λ x. isSet (now (a .words)) x || inSpan (a .address) n x)) size;
       held = took .take .ensures;
       delivered = copied .copy-front .ensures
           ∙ ap (overwrite (now (a .destination)) 0)

@@ -16,8 +16,11 @@ use Rattle.mapfetch.proofs.fetch_words.Tie as tie
 
 -- what the judge of the lent map said
 module _ (j : tie.After-judge) where
+  abbrev whole-window : tie.After-shared-slice-known
+  whole-window = j .before .before .before .before
+
   abbrev start : tie.Start
-  start = j .before .before .before .before .before .before .before
+  start = whole-window .before .before .before
 
   abbrev lent : Map
   lent = mapOf (start .args .flag) (now (start .args .words)) (now (start .args .values))
@@ -49,7 +52,8 @@ returns c =
 returns-2 : tie.Need-returns-2
 unfolding fetchMap fetchDest
 returns-2 c =
-    let delivered = c .before .before .before .before .before .before in
+    let given-back = c .before .before in
+    let delivered = given-back .before .before .before .before in
     let e = delivered .before .before .before .before in
     let done = delivered .deliver .ensures in
     record {

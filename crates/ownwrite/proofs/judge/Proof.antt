@@ -15,20 +15,35 @@ use Rattle.cache.specs.OwnWrite.{ownSays}
 use Rattle.ownwrite.proofs.judge.Statement.{statement}
 use Rattle.ownwrite.proofs.judge.Tie as tie
 
-short : (c : tie.Else1) → ltb transferLimit (c .before .before .args .size) ≡ false
-short c = le-ltb transferLimit (c .before .before .args .size) (omega arith)
+-- the tests passed, one after the other: what each tells of what is given
+module _ (c : tie.Else1) where
+  abbrev start : tie.Start
+  start = c .before .before
 
-command-low : (c : tie.Else2) → leb commandLimit (c .before .before .before .args .command) ≡ false
-command-low c = lt-leb commandLimit (c .before .before .before .args .command) (omega arith)
+  short : ltb transferLimit (start .args .size) ≡ false
+  short = le-ltb transferLimit (start .args .size) (omega arith)
 
-window-short : (c : tie.Else3) → ltb windowLimit (c .before .before .before .before .args .window-len) ≡ false
-window-short c = le-ltb windowLimit (c .before .before .before .before .args .window-len) (omega arith)
+module _ (c : tie.Else2) where
+  command-low : leb commandLimit (start (c .before) .args .command) ≡ false
+  command-low = lt-leb commandLimit (start (c .before) .args .command) (omega arith)
 
-inside : (c : tie.Else4) → ltb (c .before .before .before .before .before .before .args .window-len) (c .before .before .before .before .before .before .args .address + c .before .before .before .before .before .before .args .size) ≡ false
-inside c = sym (c .before .outside .ensures) ∙ c .if4 .left
+module _ (c : tie.Else3) where
+  abbrev shorter : tie.Else1
+  shorter = c .before .before
 
-state-whole : (c : tie.Else5) → holds (stateOf (now (c .before .before .before .before .before .before .before .before .args .state))) ≡ true
-state-whole c = sym (c .before .holds .ensures) ∙ not-false _ (c .if5 .left)
+  window-short : ltb windowLimit (start shorter .args .window-len) ≡ false
+  window-short = le-ltb windowLimit (start shorter .args .window-len) (omega arith)
+
+module _ (c : tie.Else4) where
+  abbrev given : tie.Start
+  given = start (shorter (c .before .before))
+
+  inside : ltb (given .args .window-len) (given .args .address + given .args .size) ≡ false
+  inside = sym (c .before .outside .ensures) ∙ c .if4 .left
+
+module _ (c : tie.Else5) where
+  state-whole : holds (stateOf (now (given (c .before .before) .args .state))) ≡ true
+  state-whole = sym (c .before .holds .ensures) ∙ not-false _ (c .if5 .left)
 
 returns : tie.Need-returns
 unfolding ownSays verdict
@@ -66,7 +81,14 @@ returns-6 c =
     let near = whole .before .before in
     let window = near .before .before in
     let low = window .before in
-    rw (short (low .before), command-low low, window-short window, inside near, state-whole whole, sym (c .before .is-open .ensures) ∙ not-true _ (c .if6 .taken))
+    rw (
+      short (low .before),
+      command-low low,
+      window-short window,
+      inside near,
+      state-whole whole,
+      sym (c .before .is-open .ensures) ∙ not-true _ (c .if6 .taken),
+    )
 
 returns-7 : tie.Need-returns-7
 unfolding ownSays verdict
@@ -75,7 +97,14 @@ returns-7 c =
     let near = whole .before .before in
     let window = near .before .before in
     let low = window .before in
-    rw (short (low .before), command-low low, window-short window, inside near, state-whole whole, sym (c .before .is-open .ensures) ∙ not-false _ (c .if6 .left))
+    rw (
+      short (low .before),
+      command-low low,
+      window-short window,
+      inside near,
+      state-whole whole,
+      sym (c .before .is-open .ensures) ∙ not-false _ (c .if6 .left),
+    )
 
 pub judge-spec : {M : Type 1} → statement M
 judge-spec =

@@ -2,7 +2,6 @@
 use Prim.Native.Nat.{ℕ, _+_, _-_, _≤_, _<_, _^_}
 use native.Mathlib.Omega.{arith}
 use mathlib.Core.Path.{_≡_, refl, ap, _∙_}
-use mathlib.Core.Logic.{_≢_}
 use mathlib.Core.List.{List, []}
 use mathlib.Core.Bool.{Bool, true, false, cond}
 use lib.ListN.{length, take, drop, length-drop}
@@ -15,21 +14,20 @@ use Rattle.text.proofs.Putting.{puts-past}
 use Rattle.device.specs.Step.{Device, deviceOf}
 use Rattle.device.specs.Frame.{isReadable, letterOf, frameSays, frameDelivers}
 use Rattle.journal.specs.Run.{Replays}
-use Rattle.journal.proofs.Running.{Running, running-start, running-turn, taken-read, taken-unread, replays-unreadable, replays-all}
+use Rattle.journal.proofs.Running.{Running, running-start, running-turn, taken-read, some-read, none-unread, replays-unreadable, replays-all}
 use Rattle.fetchlog.specs.Print.{Shows}
 use Rattle.fetchlog.proofs.Counted.{all-told}
 use Rattle.fetchlog.proofs.printing.print_log.Statement.{statement}
 use Rattle.fetchlog.proofs.printing.print_log.Tie as tie
 
 abbrev Inv-loop : tie.InvT-loop
-Inv-loop input state₀ store₀ window₀ destination₀ line₀ at₀ number₀ carried₀ kept₀ state store window destination line at number carried kept =
+Inv-loop input state₀ store₀ window₀ destination₀ line₀ _ _ _ _ state store window destination line at number carried kept =
     (Running (deviceOf state₀ store₀ window₀ destination₀) input [] at number 0 carried (deviceOf state store window destination) [])
-    × (kept ≤ number) × (length line ≡ 8448) × (length store ≡ length store₀) × (length window ≡ length window₀) × (length destination ≡ length destination₀)
-    × (length line ≡ length line₀)
+    × (kept ≤ number) × (length line ≡ 8448) × (length store ≡ length store₀) × (length window ≡ length window₀)
+    × (length destination ≡ length destination₀) × (length line ≡ length line₀)
 
 abbrev μ-loop : tie.MeasureT-loop
-μ-loop input state₀ store₀ window₀ destination₀ line₀ at₀ number₀ carried₀ kept₀ state store window destination line at number carried kept =
-    length input - at
+μ-loop input _ _ _ _ _ _ _ _ _ _ _ _ _ _ at _ _ _ = length input - at
 
 -- what is lent
 abbrev device : tie.Start Inv-loop μ-loop → Device
@@ -86,21 +84,6 @@ module _ (g : tie.After-print-frame Inv-loop μ-loop) where
       (after .0) (after .1 .0) (after .1 .1 .0) (after .1 .1 .1 .0) (after .1 .1 .1 .1 .0)
   shown = rw (whole l) at (g .print-frame .ensures)
 
-  -- a frame that took up bytes was read, and one that took up none was not
-  was-read : g .print-frame .result .taken ≢ 0 → isReadable (frame l) ≡ true
-  was-read some = go (isReadable (frame l)) refl
-    where
-      go : (b : Bool) → isReadable (frame l) ≡ b → b ≡ true
-      go true e = refl
-      go false e = absurd (some (shown .taken ∙ taken-unread (frame l) e))
-
-  was-unread : g .print-frame .result .taken ≡ 0 → isReadable (frame l) ≡ false
-  was-unread none = go (isReadable (frame l)) refl
-    where
-      go : (b : Bool) → isReadable (frame l) ≡ b → b ≡ false
-      go true e = absurd (omega (arith, taken-read (frame l) e .some, shown .taken, none))
-      go false e = refl
-
 abbrev one-if : Bool → ℕ
 one-if b = cond b 1 0
 
@@ -109,7 +92,7 @@ returns c =
     let g = c .before .before .before .before .before .before .before .before .before .before .before in
     let R
     = replays-unreadable (device (start (l g))) (input (l g)) [] _ _ 0 _ (d (l g)) [] (running (l g)) (inside g) 0 [] (nowhere (l g))
-    (was-unread g (omega arith))
+    (none-unread (frame (l g)) (shown g .taken) (omega arith))
     (shown g .leaves) in
     let sum = c .summed .ensures in
     let early = ap one-if (R .early) in
@@ -127,7 +110,7 @@ module _ (c : tie.After-one-if2 Inv-loop μ-loop) where
   printed = c .before .before .before .before .before .before .before .before .before .before .before
 
   read : isReadable (frame (l printed)) ≡ true
-  read = was-read printed (c .before .if1 .left)
+  read = some-read (frame (l printed)) (shown printed .taken) (c .before .if1 .left)
 
 add-at : tie.Need-add-at Inv-loop μ-loop
 add-at c =

@@ -2,7 +2,6 @@
 use Prim.Native.Nat.{ℕ, _+_, _-_, _≤_, _<_, _^_}
 use native.Mathlib.Omega.{arith}
 use mathlib.Core.Path.{_≡_, refl, ap, _∙_}
-use mathlib.Core.Logic.{_≢_}
 use mathlib.Core.List.{List}
 use mathlib.Core.Bool.{Bool, true, false, cond}
 use lib.ListN.{length, take, drop, length-drop}
@@ -12,18 +11,18 @@ use borrow.Author.Needs.{needs}
 use Rattle.device.specs.Step.{Device, deviceOf}
 use Rattle.device.specs.Frame.{isReadable}
 use Rattle.entry.specs.Logs.{Logs}
-use Rattle.journal.proofs.Running.{Running, running-start, running-turn, taken-read, taken-unread, replays-unreadable, replays-all}
+use Rattle.journal.proofs.Running.{Running, running-start, running-turn, taken-read, some-read, none-unread, replays-unreadable, replays-all}
 use Rattle.journal.proofs.run.replay.Statement.{statement}
 use Rattle.journal.proofs.run.replay.Tie as tie
 
 abbrev Inv-loop : tie.InvT-loop
-Inv-loop input state₀ store₀ window₀ destination₀ output₀ at₀ number₀ written₀ carried₀ state store window destination output at number written carried =
+Inv-loop input state₀ store₀ window₀ destination₀ output₀ _ _ _ _ state store window destination output at number written carried =
     (Running (deviceOf state₀ store₀ window₀ destination₀) input output₀ at number written carried (deviceOf state store window destination) output)
-    × (length store ≡ length store₀) × (length window ≡ length window₀) × (length destination ≡ length destination₀) × (length output ≡ length output₀)
+    × (length store ≡ length store₀) × (length window ≡ length window₀) × (length destination ≡ length destination₀)
+    × (length output ≡ length output₀)
 
 abbrev μ-loop : tie.MeasureT-loop
-μ-loop input state₀ store₀ window₀ destination₀ output₀ at₀ number₀ written₀ carried₀ state store window destination output at number written carried =
-    length input - at
+μ-loop input _ _ _ _ _ _ _ _ _ _ _ _ _ _ at _ _ _ = length input - at
 
 -- what is lent
 abbrev device : tie.Start Inv-loop μ-loop → Device
@@ -61,11 +60,18 @@ module _ (l : tie.At-loop Inv-loop μ-loop) where
 
 -- a frame logged
 module _ (g : tie.After-log-frame Inv-loop μ-loop) where
+  -- its buffers being lent
+  abbrev lending : tie.After-log-frame-arg3 Inv-loop μ-loop
+  lending = g .before .before .before .before
+
+  abbrev entered : tie.In-loop Inv-loop μ-loop
+  entered = lending .before .before .before
+
   abbrev l : tie.At-loop Inv-loop μ-loop
-  l = g .before .before .before .before .before .before .before .before
+  l = entered .before
 
   inside : l .loop .at < length (input l)
-  inside = g .before .before .before .before .before .before .before .loop-test .taken
+  inside = entered .loop-test .taken
 
   logged :
       let after = g .log-frame .last .1 .1 in
@@ -73,41 +79,35 @@ module _ (g : tie.After-log-frame Inv-loop μ-loop) where
       (after .0) (after .1 .0) (after .1 .1 .0) (after .1 .1 .1 .0) (after .1 .1 .1 .1 .0)
   logged = rw (whole l) at (g .log-frame .ensures)
 
-  -- a frame that took up bytes was read, and one that took up none was not
-  was-read : g .log-frame .result .taken ≢ 0 → isReadable (frame l) ≡ true
-  was-read some = go (isReadable (frame l)) refl
-    where
-      go : (b : Bool) → isReadable (frame l) ≡ b → b ≡ true
-      go true e = refl
-      go false e = absurd (some (logged .taken ∙ taken-unread (frame l) e))
+-- its buffers given back, which are as long as before
+module _ (k : tie.After-slice-known8 Inv-loop μ-loop) where
+  -- two of them
+  abbrev giving-back : tie.After-slice-known6 Inv-loop μ-loop
+  giving-back = k .before .before .before .before
 
-  was-unread : g .log-frame .result .taken ≡ 0 → isReadable (frame l) ≡ false
-  was-unread none = go (isReadable (frame l)) refl
-    where
-      go : (b : Bool) → isReadable (frame l) ≡ b → b ≡ false
-      go true e = absurd (omega (arith, taken-read (frame l) e .some, logged .taken, none))
-      go false e = refl
+  abbrev g : tie.After-log-frame Inv-loop μ-loop
+  g = giving-back .before .before .before .before
 
 returns : tie.Need-returns Inv-loop μ-loop
 returns c =
-    let g = c .before .before .before .before .before .before .before .before .before in
+    let g = g (c .before) in
     let L = logged g in
-    replays-unreadable (device (start (l g))) (input (l g)) _ _ _ _ _ (d (l g)) _ (running (l g)) (inside g) _ _ (L .line) (was-unread g (omega arith))
-    (L .leaves)
+    replays-unreadable (device (start (l g))) (input (l g)) _ _ _ _ _ (d (l g)) _ (running (l g)) (inside g) _ _ (L .line)
+    (none-unread (frame (l g)) (L .taken) (omega arith)) (L .leaves)
 
 add-at : tie.Need-add-at Inv-loop μ-loop
 add-at c =
-    let g = c .before .before .before .before .before .before .before .before .before .before in
-    let read = was-read g (c .before .if1 .left) in
+    let g = g (c .before .before) in
+    let read = some-read (frame (l g)) (logged g .taken) (c .before .if1 .left) in
     let most : l g .loop .at + g .log-frame .result .taken ≤ length (input (l g))
     = omega (arith, logged g .taken, taken-read (frame (l g)) read .there, length-drop (l g .loop .at) (input (l g)), inside g) in
     omega (arith, most, bound (l g))
 
 loop-again : tie.Need-loop-again Inv-loop μ-loop
 loop-again c =
-    let g = c .before .before .before .before .before .before .before .before .before .before in
+    let g = g (c .before .before) in
     let L = logged g in
-    let read = was-read g (c .before .if1 .left) in
+    let read = some-read (frame (l g)) (L .taken) (c .before .if1 .left) in
     let count = ap (λ (k : ℕ). l g .loop .carried + k) (c .one-if .ensures .0 ∙ ap (λ (b : Bool). cond b 1 0) (L .accepted)) in (
       running-turn (device (start (l g))) (input (l g)) _ _ _ _ _ (d (l g)) _ (running (l g)) (inside g) _ _ (L .line) read (L .taken) count (L .leaves),
       omega arith,

@@ -24,14 +24,20 @@ loop-holds c = let a = c .before .before .args in (omega arith, clean-start (isS
 
 -- the call on a word's values tells of the map's
 module _ (c : tie.After-clean-word Inv-loop μ-loop) where
+  abbrev turn : tie.At-loop Inv-loop μ-loop
+  turn = c .before .before .before .before
+
+  abbrev start : tie.Start Inv-loop μ-loop
+  start = turn .before .before .before
+
   abbrev at : ℕ
-  at = c .before .before .before .before .loop .i
+  at = turn .loop .i
 
   abbrev words : List ℕ
-  words = now (c .before .before .before .before .before .before .before .args .words)
+  words = now (start .args .words)
 
   abbrev values : List ℕ
-  values = now (c .before .before .before .before .before .before .before .args .values)
+  values = now (start .args .values)
 
   tells : c .clean-word .result ≡ clean (isSet words) values (64 * at) 64
   tells = c .clean-word .ensures ∙ clean-word-lent words values at
@@ -48,7 +54,7 @@ loop-again : tie.Need-loop-again Inv-loop μ-loop
 loop-again c =
     let w = c .before in
     let next : 64 * at w + 64 ≡ 64 * (at w + 1) = omega arith in
-    let before = w .before .before .before .before .loop .inv .1 in
+    let before = turn w .loop .inv .1 in
     let clean-then = clean-on (isSet (words w)) (values w) (64 * at w) 64 before (sym (tells w) ∙ not-false _ (c .if1 .left)) in
     (omega arith, ap (clean (isSet (words w)) (values w) 0) (sym next) ∙ clean-then)
 
