@@ -3,9 +3,9 @@
  *
  * Firmware reads a host's descriptor once to check it and once to use it, and the host may change
  * it in between. This cache stands between the two: for each command it reads a host byte once,
- * keeps it, and gives the same byte again until the command ends. The functions are proved in the
- * language Rattle to do what the agreed scope says; this header says it in short, docs/RULES.md in
- * full.
+ * keeps it, and gives the same byte again until the command ends or writes there itself; what it wrote
+ * it is given from then on. The functions are proved in the language Rattle to do what the agreed
+ * scope says; this header says it in short, docs/RULES.md in full.
  *
  * Words
  *   window       host memory that is lent to a call: bytes, addressed from 0
@@ -21,8 +21,8 @@
  *   - It is done or refused, never half done. Done: the status is DOORCLOVER_OK, and all that is
  *     said of the call has happened. Refused: the status is the lowest number that applies, the
  *     other members of the reply are 0, and no byte of state, store, map, window, destination or
- *     output has changed. (A journal runs many calls; this holds for each of them. A map's fetch
- *     judges 30 in the place of 7, and so gives it before 9.)
+ *     output has changed. (A journal runs many calls; this holds for each of them. A map's fetch and
+ *     own write judge 30 in the place of 7, and so give it before 9.)
  *   - Numbers may have any value. What is out of range is refused, and address + length is judged
  *     as the true sum, which does not wrap.
  *   - A state may hold any words, a store any bytes, and a map any words and bytes. A state's words,
@@ -57,10 +57,10 @@
  *
  * Stack, in bytes, arguments on it included and the return address not. It was measured on a painted
  * stack, and is not proved. What your memcpy and memset take comes on top.
- *     fresh   0      begin 128      host write  48      frame read   168
- *     show   88      fetch 496      own write  216      frame write   48
- *                    end   176                          journal     3392
- *     of the byte map: fresh 16, begin 144, fetch 312, end 176
+ *     fresh   0      begin 128      host write  56      frame read   168
+ *     show   88      fetch 520      own write  600      frame write   48
+ *                    end   176                          journal     3560
+ *     of the byte map: fresh 16, begin 144, fetch 424, own write 424, end 176
  * DOORCLOVER_STACK and DOORCLOVER_JOURNAL_STACK are these with some room.
  *
  * Targets: archives for x86-64, AArch64 and RISC-V 64 (rv64gc, lp64d), little-endian, ELF, by the
@@ -89,7 +89,7 @@ extern "C" {
 #endif
 
 /* The number of this interface; doorclover_release() gives that of the archive. */
-#define DOORCLOVER_RELEASE 1u
+#define DOORCLOVER_RELEASE 2u
 
 /* Limits. */
 #define DOORCLOVER_COMMANDS 8u      /* commands are 0 to 7 */
@@ -211,6 +211,7 @@ typedef struct doorclover_ended {
 typedef struct doorclover_written {
     doorclover_status status;
     size_t bytes;  /* how many were written */
+    size_t fresh;  /* how many of their addresses the command had not held before; 0 of a host write */
 } doorclover_written;
 
 typedef struct doorclover_shown {
@@ -272,7 +273,8 @@ DOORCLOVER_USE_REPLY doorclover_fetched doorclover_fetch(
     size_t command, size_t address, size_t length);
 
 /*
- * Closes an open command, drops its records, and zeroes its part of the store.
+ * Closes an open command, drops its records, and zeroes its part of the store. From the fresh state on,
+ * the bytes of the reply are the sum of what its fetches and own writes replied as fresh.
  * Refused with 6, 8, 20, 21.
  */
 DOORCLOVER_USE_REPLY doorclover_ended doorclover_end(
@@ -290,10 +292,12 @@ DOORCLOVER_USE_REPLY doorclover_written doorclover_host_write(
     const uint8_t *bytes, size_t size);
 
 /*
- * The same by an open command. What it holds stays as it is: a later fetch of the same span gives the
- * held bytes and not those written. State and store are lent as they are to a fetch, and no byte of
- * them changes; the store is not looked at, and may have any length.
- * Refused with 4, 6, 7, 9, 20, 21.
+ * The same by an open command, which holds the bytes from now on as if it had fetched them there, over
+ * older held values too: its later fetches give what it wrote last, whatever the host writes. What is
+ * held comes from the given bytes; the window is written, and not read. The records become those that
+ * a fetch of the span would make. A length of 0 writes and holds nothing, and replies 0 and 0. The
+ * store must have its length even where nothing is held anew.
+ * Refused with 4, 6 to 9, 20, 21, 23, 24, and then state, store and window are as they were.
  */
 DOORCLOVER_USE_REPLY doorclover_written doorclover_own_write(
     doorclover_state *state,
@@ -346,8 +350,8 @@ DOORCLOVER_USE_REPLY doorclover_replayed doorclover_journal_replay(
  * The byte map's calls. A map's parts are lent one by one, as &map.open, map.words, map.values. It is
  * proved that a list of these calls, begun on the fresh map and with no window above 4,096 bytes, is
  * answered as the calls above answer it for any one command of a fresh state whose store has 32,768
- * bytes: same status, same numbers, same bytes; and after each call every run is a record of that
- * command, and every record a run.
+ * bytes: same status, same numbers, same bytes delivered and written; and after each call every run is
+ * a record of that command, and every record a run.
  */
 
 /* Makes the fresh map: the command is closed, and nothing is held. */
@@ -381,6 +385,18 @@ DOORCLOVER_USE_REPLY doorclover_fetched doorclover_map_fetch(
 DOORCLOVER_USE_REPLY doorclover_ended doorclover_map_end(
     uint64_t *open, uint64_t *words, uint8_t *values);
 
+/*
+ * Copies bytes into the window and holds them, as doorclover_own_write does: the bit of each address is
+ * set, and the byte given for it is its value, over an older one too. The window is written, and not
+ * read. Refused with 24 if there would be more than 64 runs; there is no 23 here either.
+ * Refused with 4, 30, 9, 20, 21, 24, the first of them in this order that applies.
+ */
+DOORCLOVER_USE_REPLY doorclover_written doorclover_map_own_write(
+    const uint64_t *open, uint64_t *words, uint8_t *values,
+    uint8_t *window, size_t window_size,
+    size_t address,
+    const uint8_t *bytes, size_t size);
+
 #ifdef __cplusplus
 }
 #endif
@@ -409,7 +425,8 @@ DOORCLOVER_ASSERT(DOORCLOVER_ALIGN(doorclover_map) == 8);
 DOORCLOVER_ASSERT(sizeof(doorclover_begun) == 4);
 DOORCLOVER_ASSERT(sizeof(doorclover_fetched) == 24 && offsetof(doorclover_fetched, replayed) == 16);
 DOORCLOVER_ASSERT(sizeof(doorclover_ended) == 24 && offsetof(doorclover_ended, bytes) == 16);
-DOORCLOVER_ASSERT(sizeof(doorclover_written) == 16 && offsetof(doorclover_written, bytes) == 8);
+DOORCLOVER_ASSERT(sizeof(doorclover_written) == 24 && offsetof(doorclover_written, bytes) == 8);
+DOORCLOVER_ASSERT(offsetof(doorclover_written, fresh) == 16);
 DOORCLOVER_ASSERT(sizeof(doorclover_shown) == 8 && offsetof(doorclover_shown, length) == 6);
 DOORCLOVER_ASSERT(sizeof(doorclover_step) == 48 && offsetof(doorclover_step, taken) == 40);
 DOORCLOVER_ASSERT(sizeof(doorclover_framed) == 16 && offsetof(doorclover_framed, length) == 8);

@@ -87,7 +87,7 @@ impl From<Fetched> for Answer {
 
 impl From<Written> for Answer {
     fn from(reply: Written) -> Answer {
-        Answer::of_status(reply.status, reply.bytes, 0)
+        Answer::of_status(reply.status, reply.bytes, reply.fresh)
     }
 }
 

@@ -24,7 +24,7 @@ use crate::buffer::Buffer;
 use crate::memory::Memory;
 
 /// A program with what it keeps between calls. A reply has the form that the
-/// program gives it. Writes are those of a program without checks.
+/// program gives it. A host write is that of a program without checks.
 pub trait Cache {
     fn new() -> Self;
     /// Back to the beginning, in the same memory.
@@ -47,12 +47,10 @@ pub trait Cache {
     fn own_write(
         &mut self,
         window: &mut [u8],
-        _command: usize,
+        command: usize,
         address: usize,
         bytes: &[u8],
-    ) -> impl Into<Answer> {
-        peers::write(window, address, bytes)
-    }
+    ) -> impl Into<Answer>;
 }
 
 /// A program that keeps its state as words or can tell it as such.

@@ -42,9 +42,12 @@ pub fn depths(cases: &[Case]) -> Vec<Depth> {
         "map fresh",
         taken(&mut || boundary::map_fresh(&mut map)),
     ));
-    let calls = ["begin", "fetch", "end"]
-        .into_iter()
-        .zip(["map begin", "map fetch", "map end"]);
+    let calls = [
+        ("begin", "map begin"),
+        ("fetch", "map fetch"),
+        ("end", "map end"),
+        ("own write", "map own write"),
+    ];
     depths.extend(calls.map(|(call, function)| depth(function, of_map_call(cases, call))));
     depths
 }

@@ -27,12 +27,14 @@ pub struct Fetched {
     pub replayed: usize,
 }
 
-/// How many bytes were written.
+/// How many bytes were written, and how many of their addresses the command
+/// had not held before, which is 0 of a host write.
 #[repr(C)]
 #[derive(Clone, Copy, Debug, PartialEq, Eq)]
 pub struct Written {
     pub status: u32,
     pub bytes: usize,
+    pub fresh: usize,
 }
 
 /// A record.
@@ -173,4 +175,15 @@ extern "C" {
     ) -> Fetched;
 
     pub fn doorclover_map_end(open: *mut u64, words: *mut u64, values: *mut u8) -> Ended;
+
+    pub fn doorclover_map_own_write(
+        open: *const u64,
+        words: *mut u64,
+        values: *mut u8,
+        window: *mut u8,
+        window_size: usize,
+        address: usize,
+        bytes: *const u8,
+        size: usize,
+    ) -> Written;
 }

@@ -262,3 +262,24 @@ pub fn map_end(map: &mut ByteMap) -> Ended {
     // SAFETY: the parts come from a reference that lives through the call.
     unsafe { exported::doorclover_map_end(&mut map.open, words, values) }
 }
+
+pub fn map_own_write(
+    map: &mut ByteMap,
+    window: &mut [u8],
+    address: usize,
+    bytes: &[u8],
+) -> Written {
+    // SAFETY: what is lent comes from references that live through the call.
+    unsafe {
+        exported::doorclover_map_own_write(
+            &map.open,
+            map.words.as_mut_ptr(),
+            map.values.as_mut_ptr(),
+            window.as_mut_ptr(),
+            window.len(),
+            address,
+            bytes.as_ptr(),
+            bytes.len(),
+        )
+    }
+}

@@ -57,18 +57,32 @@ impl Asked {
     }
 }
 
-/// Whether bytes of a fetch came from the window or from what the command
-/// holds.
+/// What became of bytes: those of a fetch came from the window or from what the
+/// command holds, and those of an own write came over what it held or not.
 #[derive(Clone, Copy, Debug, PartialEq, Eq)]
-pub enum Source {
+pub enum Fate {
     Fresh,
     Replayed,
+    New,
+    Over,
 }
 
-/// Bytes of a fetch that came from one source, with their addresses.
+impl Fate {
+    /// What a line says for it.
+    pub fn word(self) -> &'static str {
+        match self {
+            Fate::Fresh => "fresh",
+            Fate::Replayed => "replayed",
+            Fate::New => "new",
+            Fate::Over => "over",
+        }
+    }
+}
+
+/// Bytes of a fetch or an own write that had one fate, with their addresses.
 #[derive(Clone, Debug, PartialEq, Eq)]
 pub struct Part {
-    pub source: Source,
+    pub fate: Fate,
     pub span: Span,
     pub bytes: Vec<u8>,
 }
@@ -77,9 +91,9 @@ pub struct Part {
 #[derive(Clone, Debug, PartialEq, Eq)]
 pub enum Answer {
     Begun,
-    /// The parts of the span by ascending address, and all that the command
-    /// holds from then on.
-    Fetched {
+    /// The parts of the span of a fetch or an own write by ascending address, and
+    /// all that the command holds from then on.
+    Held {
         parts: Vec<Part>,
         records: Vec<Span>,
     },
@@ -88,6 +102,7 @@ pub enum Answer {
         records: u32,
         bytes: u32,
     },
+    /// What the host has written.
     Written(Vec<u8>),
     Refused {
         number: u32,
@@ -112,11 +127,8 @@ impl Display for Span {
 
 impl Display for Part {
     fn fmt(&self, to: &mut Formatter) -> fmt::Result {
-        let source = match self.source {
-            Source::Fresh => "fresh",
-            Source::Replayed => "replayed",
-        };
-        write!(to, "{source} {} {}", self.span, hexadecimal(&self.bytes))
+        let word = self.fate.word();
+        write!(to, "{word} {} {}", self.span, hexadecimal(&self.bytes))
     }
 }
 
@@ -124,7 +136,7 @@ impl Display for Answer {
     fn fmt(&self, to: &mut Formatter) -> fmt::Result {
         match self {
             Answer::Begun => Ok(()),
-            Answer::Fetched { parts, records } => {
+            Answer::Held { parts, records } => {
                 let parts = list(parts, ", ").unwrap_or("nothing".to_string());
                 match list(records, " ") {
                     Some(records) => write!(to, "{parts}; records {records}"),

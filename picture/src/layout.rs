@@ -161,7 +161,7 @@ fn named(frames: &[Frame]) -> Vec<Named> {
         let touched = !matches!(frame.answer, Answer::Refused { .. });
         let asked = frame.asked.span().into_iter();
         named.extend(asked.map(|span| Named { span, touched }));
-        if let Answer::Fetched { records, .. } = &frame.answer {
+        if let Answer::Held { records, .. } = &frame.answer {
             named.extend(records.iter().map(|&span| Named { span, touched }));
         }
     }

@@ -7,9 +7,10 @@
 //!
 //! Address is across, frame down: a row for each line of the explanation, with
 //! the step at its right. A byte that a command fetches has the colour of
-//! fresh or of replayed bytes, and bars show what the command holds then. A
-//! refused frame has a cross and the number of the refusal, and what it asked
-//! for is hatched. The axis is cut where no frame names an address.
+//! fresh or of replayed bytes, and bars show what the command holds then. Bytes
+//! that a command writes over held ones have a bar at their top. A refused frame
+//! has a cross and the number of the refusal, and what it asked for is hatched.
+//! The axis is cut where no frame names an address.
 //!
 //! - [`frame`]: what a line says. [`rest`], [`parse`]: a line, read. [`run`]:
 //!   all lines.

@@ -1,6 +1,6 @@
 //! A line of an explanation, read.
 
-use crate::frame::{Answer, Asked, Frame, Part, Source, Span, Step};
+use crate::frame::{Answer, Asked, Fate, Frame, Part, Span, Step};
 use crate::rest::{Parsed, Rest};
 
 /// The frame that a line tells of; the line is given without its newline.
@@ -70,12 +70,11 @@ fn answer(rest: &mut Rest, asked: Asked) -> Parsed<Answer> {
         return refused(rest);
     }
     match asked {
-        Asked::Fetch(_, span) => fetched(rest, span),
+        Asked::Fetch(_, span) => held(rest, span, [Fate::Fresh, Fate::Replayed]),
+        Asked::OwnWrite(_, span) => held(rest, span, [Fate::New, Fate::Over]),
         Asked::End(_) => ended(rest),
-        Asked::HostWrite(span) | Asked::OwnWrite(_, span) if span.length > 0 => {
-            Ok(Answer::Written(rest.bytes(span.length)?))
-        }
-        Asked::HostWrite(_) | Asked::OwnWrite(..) => {
+        Asked::HostWrite(span) if span.length > 0 => Ok(Answer::Written(rest.bytes(span.length)?)),
+        Asked::HostWrite(_) => {
             rest.take("nothing", "`nothing`, as the span has no byte")?;
             Ok(Answer::Written(vec![]))
         }
@@ -95,8 +94,9 @@ fn refused(rest: &mut Rest) -> Parsed<Answer> {
     Ok(Answer::Refused { number, reason })
 }
 
-/// The parts of a fetch, which make up its span, and the records.
-fn fetched(rest: &mut Rest, span: Span) -> Parsed<Answer> {
+/// The parts of a fetch or an own write, which make up its span and have one of
+/// two fates, and the records.
+fn held(rest: &mut Rest, span: Span, fates: [Fate; 2]) -> Parsed<Answer> {
     let mut parts = vec![];
     if span.length == 0 {
         rest.take("nothing", "`nothing`, as the span has no byte")?;
@@ -106,36 +106,37 @@ fn fetched(rest: &mut Rest, span: Span) -> Parsed<Answer> {
         if !parts.is_empty() {
             rest.take(", ", "`, ` and the rest of the span")?;
         }
-        let part = part(rest, start, span.end())?;
+        let part = part(rest, start, span.end(), fates)?;
         start = part.span.end();
         parts.push(part);
     }
     rest.take("; ", "`; ` and the records")?;
     let records = records(rest)?;
-    Ok(Answer::Fetched { parts, records })
+    Ok(Answer::Held { parts, records })
 }
 
 /// A part that begins at an address and ends at another or before it.
-fn part(rest: &mut Rest, start: u32, end: u32) -> Parsed<Part> {
-    let source = if rest.skip("fresh ") {
-        Source::Fresh
-    } else {
-        rest.take("replayed ", "`fresh` or `replayed`")?;
-        Source::Replayed
-    };
+fn part(rest: &mut Rest, start: u32, end: u32, fates: [Fate; 2]) -> Parsed<Part> {
+    let fate = fate(rest, fates)?;
     let before = rest.0;
     let span = rest.span()?;
     if span.start != start || span.length == 0 || span.end() > end {
         *rest = Rest(before);
-        return rest.fault("the next part of the span that is fetched");
+        return rest.fault("the next part of the span");
     }
     rest.take(" ", "a blank and the bytes")?;
     let bytes = rest.bytes(span.length)?;
-    Ok(Part {
-        source,
-        span,
-        bytes,
-    })
+    Ok(Part { fate, span, bytes })
+}
+
+/// The word for one of two fates, and a blank.
+fn fate(rest: &mut Rest, fates: [Fate; 2]) -> Parsed<Fate> {
+    let said = |fate: &Fate| rest.skip(&format!("{} ", fate.word()));
+    match fates.into_iter().find(said) {
+        Some(fate) => Ok(fate),
+        None if fates.contains(&Fate::New) => rest.fault("`new` or `over`"),
+        None => rest.fault("`fresh` or `replayed`"),
+    }
 }
 
 /// The records, each with a blank before it.
@@ -166,7 +167,7 @@ mod tests {
     use super::*;
 
     /// All forms that a line has.
-    const LINES: [&str; 25] = [
+    const LINES: [&str; 27] = [
         "1 (5: H 64 040011002200330044) the host writes 64+9: 040011002200330044",
         "2 (8: B 3) command 3 begins",
         "3 (11: F 3 64 1) command 3 fetches 64+1: fresh 64+1 04; records 64+1",
@@ -185,8 +186,10 @@ mod tests {
         "4 command 7 fetches 64+3: replayed 64+1 00, replayed 65+1 01, fresh 66+1 ff; records \
          64+3",
         "5 the host writes 64+0: nothing",
-        "6 command 3 writes 64+2: aabb",
-        "7 command 3 writes 64+0: nothing",
+        "6 command 3 writes 64+2: new 64+2 aabb; records 64+2",
+        "6 command 3 writes 64+4: over 64+2 6162, new 66+2 6364; records 64+4 80+1",
+        "7 command 3 writes 64+0: nothing; records 64+2",
+        "7 command 3 writes 64+0: nothing; no records",
         "8 command 3 ends: 0 records, 0 bytes",
         "9 command 3 ends: 64 records, 1 byte",
         "10 command 3 fetches 65535+4096: refused (9): the span ends beyond the window",
@@ -213,31 +216,35 @@ mod tests {
     }
 
     #[test]
-    fn a_fetch_has_its_parts_and_records() {
-        let read = frame("1 command 3 fetches 8+3: replayed 8+1 04, fresh 9+2 a0ff; records 8+3");
-        let part = |source, start, bytes: &[u8]| Part {
-            source,
+    fn a_fetch_and_an_own_write_have_their_parts_and_records() {
+        let part = |fate, start, bytes: &[u8]| Part {
+            fate,
             span: Span {
                 start,
                 length: bytes.len() as u32,
             },
             bytes: bytes.to_vec(),
         };
-        let answer = Answer::Fetched {
-            parts: vec![
-                part(Source::Replayed, 8, &[4]),
-                part(Source::Fresh, 9, &[0xa0, 0xff]),
-            ],
-            records: vec![Span {
-                start: 8,
-                length: 3,
-            }],
-        };
-        assert_eq!(read.map(|frame| frame.answer), Ok(answer));
+        for (deed, fates) in [
+            ("fetches", [Fate::Replayed, Fate::Fresh]),
+            ("writes", [Fate::Over, Fate::New]),
+        ] {
+            let [held, other] = fates.map(Fate::word);
+            let line = format!("1 command 3 {deed} 8+3: {held} 8+1 04, {other} 9+2 a0ff");
+            let read = frame(&format!("{line}; records 8+3"));
+            let answer = Answer::Held {
+                parts: vec![part(fates[0], 8, &[4]), part(fates[1], 9, &[0xa0, 0xff])],
+                records: vec![Span {
+                    start: 8,
+                    length: 3,
+                }],
+            };
+            assert_eq!(read.map(|frame| frame.answer), Ok(answer));
+        }
     }
 
     /// A line, and the text at which it stops being one of an explanation.
-    const BAD: [(&str, &str); 31] = [
+    const BAD: [(&str, &str); 35] = [
         ("", ""),
         ("x", "x"),
         ("01 command 3 begins", "01 command 3 begins"),
@@ -275,6 +282,16 @@ mod tests {
             "1 command 3 fetches 8+2: fresh 9+2 0000; records 8+2",
             "9+2 0000; records 8+2",
         ),
+        (
+            "1 command 3 fetches 8+1: new 8+1 00; records 8+1",
+            "new 8+1 00; records 8+1",
+        ),
+        (
+            "1 command 3 writes 8+1: fresh 8+1 00; records 8+1",
+            "fresh 8+1 00; records 8+1",
+        ),
+        ("1 command 3 writes 8+1: 00", "00"),
+        ("1 command 3 writes 8+0: nothing", ""),
     ];
 
     #[test]

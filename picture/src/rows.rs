@@ -1,7 +1,7 @@
 //! The row of a frame.
 
 use crate::axis::Place;
-use crate::frame::{Answer, Asked, Frame, Part, Source, Span};
+use crate::frame::{Answer, Asked, Fate, Frame, Part, Span};
 use crate::layout::Layout;
 use crate::legend::cross;
 use crate::svg::Svg;
@@ -68,9 +68,8 @@ impl Row<'_> {
     fn answer(&mut self, frame: &Frame) {
         match (&frame.answer, frame.asked) {
             (Answer::Begun | Answer::Ended { .. }, _) => self.edge(&frame.answer),
-            (Answer::Fetched { parts, records }, _) => self.fetched(parts, records),
+            (Answer::Held { parts, records }, _) => self.held(parts, records),
             (Answer::Written(bytes), Asked::HostWrite(span)) => self.cells("host", span, bytes),
-            (Answer::Written(bytes), Asked::OwnWrite(_, span)) => self.cells("own", span, bytes),
             (Answer::Written(_), _) => {}
             (Answer::Refused { number, .. }, asked) => self.refused(*number, asked.span()),
         }
@@ -87,23 +86,35 @@ impl Row<'_> {
         self.svg.stroke("edge", [left, middle, right, middle]);
     }
 
-    /// The bytes of a fetch, small parts over large ones, and below them bars
-    /// for all that the command holds.
-    fn fetched(&mut self, parts: &[Part], records: &[Span]) {
+    /// The bytes of a fetch or an own write, small parts over large ones, and
+    /// below them bars for all that the command holds.
+    fn held(&mut self, parts: &[Part], records: &[Span]) {
         let mut parts: Vec<&Part> = parts.iter().collect();
         parts.sort_by_key(|part| std::cmp::Reverse(part.span.length));
         for part in parts {
-            let class = match part.source {
-                Source::Fresh => "fresh",
-                Source::Replayed => "replayed",
-            };
-            self.cells(class, part.span, &part.bytes);
+            self.part(part);
         }
-        let top = self.top + self.height + 1.5;
-        for place in records
-            .iter()
-            .filter_map(|record| self.layout.axis.place(*record))
-        {
+        for record in records {
+            self.bar(*record, self.top + self.height + 1.5);
+        }
+    }
+
+    /// The bytes of a part, with a bar at the top of those that came over others.
+    fn part(&mut self, part: &Part) {
+        let class = match part.fate {
+            Fate::Fresh => "fresh",
+            Fate::Replayed => "replayed",
+            Fate::New | Fate::Over => "own",
+        };
+        self.cells(class, part.span, &part.bytes);
+        if part.fate == Fate::Over {
+            self.bar(part.span, self.top);
+        }
+    }
+
+    /// A bar over the addresses of a span.
+    fn bar(&mut self, span: Span, top: f64) {
+        if let Some(place) = self.layout.axis.place(span) {
             let width = (place.width - 1.0).max(LEAST);
             self.svg
                 .rectangle("record", [place.left + 0.5, top, width, 2.0]);

@@ -1,10 +1,10 @@
 //! The texts of a picture.
 
-use crate::frame::{counted, Answer, Frame, Part, Source};
+use crate::frame::{counted, Answer, Asked, Fate, Frame, Part};
 
 /// The text at the right side of a row, of so many characters at most: the
 /// step, or the span and, if they fit, how many of its bytes are fresh and
-/// replayed.
+/// replayed, or new and written over others.
 pub fn side(frame: &Frame, most: usize) -> String {
     if let Some(step) = &frame.step {
         return shortened(&step.text, most);
@@ -13,11 +13,15 @@ pub fn side(frame: &Frame, most: usize) -> String {
         .asked
         .span()
         .map_or(String::new(), |span| span.to_string());
-    let Answer::Fetched { parts, .. } = &frame.answer else {
+    let Answer::Held { parts, .. } = &frame.answer else {
         return span;
     };
-    let (fresh, replayed) = (sum(parts, Source::Fresh), sum(parts, Source::Replayed));
-    let text = format!("{span}: {fresh} fresh, {replayed} replayed");
+    let fates = match frame.asked {
+        Asked::OwnWrite(..) => [Fate::New, Fate::Over],
+        _ => [Fate::Fresh, Fate::Replayed],
+    };
+    let [one, other] = fates.map(|fate| format!("{} {}", sum(parts, fate), fate.word()));
+    let text = format!("{span}: {one}, {other}");
     if text.len() <= most {
         text
     } else {
@@ -25,9 +29,9 @@ pub fn side(frame: &Frame, most: usize) -> String {
     }
 }
 
-/// How many bytes of a fetch have this source.
-fn sum(parts: &[Part], source: Source) -> u32 {
-    let parts = parts.iter().filter(|part| part.source == source);
+/// How many bytes have this fate.
+fn sum(parts: &[Part], fate: Fate) -> u32 {
+    let parts = parts.iter().filter(|part| part.fate == fate);
     parts.map(|part| part.span.length).sum()
 }
 
@@ -38,7 +42,7 @@ pub fn aside(answer: &Answer) -> Option<String> {
             let (records, bytes) = (counted(*records, "record"), counted(*bytes, "byte"));
             Some(format!("held {records}, {bytes}"))
         }
-        Answer::Fetched { parts, .. } if parts.is_empty() => Some("nothing".to_string()),
+        Answer::Held { parts, .. } if parts.is_empty() => Some("nothing".to_string()),
         Answer::Written(bytes) if bytes.is_empty() => Some("nothing".to_string()),
         _ => None,
     }
@@ -75,6 +79,8 @@ mod tests {
         let line = "1 command 3 fetches 8+3: replayed 8+1 04, fresh 9+2 a0ff; records 8+3";
         assert_eq!(side_of(line), "8+3: 2 fresh, 1 replayed");
         assert_eq!(side(&parse::frame(line).unwrap(), 20), "8+3");
+        let line = "1 command 3 writes 8+3: over 8+1 04, new 9+2 a0ff; records 8+3";
+        assert_eq!(side_of(line), "8+3: 2 new, 1 over");
         assert_eq!(side_of("1 the host writes 64+1: 04"), "64+1");
         assert_eq!(side_of("1 command 3 begins"), "");
     }
@@ -85,6 +91,8 @@ mod tests {
         let ended = aside("1 command 3 ends: 1 record, 9 bytes");
         assert_eq!(ended.as_deref(), Some("held 1 record, 9 bytes"));
         let nothing = aside("1 command 3 fetches 64+0: nothing; no records");
+        assert_eq!(nothing.as_deref(), Some("nothing"));
+        let nothing = aside("1 command 3 writes 64+0: nothing; records 8+3");
         assert_eq!(nothing.as_deref(), Some("nothing"));
         let nothing = aside("1 the host writes 64+0: nothing");
         assert_eq!(nothing.as_deref(), Some("nothing"));

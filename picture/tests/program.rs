@@ -69,29 +69,33 @@ fn what_a_run_does_is_in_its_picture() {
          2 (8: B 3) command 3 begins\n\
          3 (11: F 3 64 1) command 3 fetches 64+1: fresh 64+1 a0; records 64+1\n\
          5 (17: F 3 64 2) command 3 fetches 64+2: replayed 64+1 a0, fresh 65+1 4f; records 64+2\n\
-         6 (18: W 3 16000 5b) command 3 writes 16000+1: 5b\n\
-         7 (20: E 3) command 3 ends: 1 record, 2 bytes\n\
-         8 (21: E 3) command 3 ends: refused (21): the command is not open\n",
+         6 (18: W 3 65 5b6c) command 3 writes 65+2: over 65+1 5b, new 66+1 6c; records 64+3\n\
+         7 (19: H 16000 7d) the host writes 16000+1: 7d\n\
+         9 (20: E 3) command 3 ends: 1 record, 3 bytes\n\
+         10 (21: E 3) command 3 ends: refused (21): the command is not open\n",
     );
     for (part, count) in [
         (
-            "<title id=\"title\">A run of 7 frames: 6 ok, 1 refused</title>",
+            "<title id=\"title\">A run of 8 frames: 7 ok, 1 refused</title>",
             1,
         ),
         (">a0</text>", 3),
         (">4f</text>", 2),
         (">5b</text>", 1),
+        (">6c</text>", 1),
         (">F 3 64 2</text>", 1),
         (">64</text>", 1),
         (">16000</text>", 1),
-        (">held 1 record, 2 bytes</text>", 1),
+        (">held 1 record, 3 bytes</text>", 1),
         (">the command is not open</text>", 1),
+        (">written over a held byte</text>", 1),
         // One more of each is in the legend.
         ("\"fresh\"", 1 + 2),
         ("\"replayed\"", 1 + 1),
-        ("\"host\"", 1 + 2),
-        ("\"own\"", 1 + 1),
-        ("\"record\"", 1 + 2),
+        ("\"host\"", 1 + 3),
+        // And one of these in the note on bytes that are written over others.
+        ("\"own\"", 1 + 2 + 1),
+        ("\"record\"", 1 + 4 + 1),
     ] {
         assert_eq!(picture.matches(part).count(), count, "{part}");
     }

@@ -1,12 +1,12 @@
-//! The byte map (F-2 in 02, the agreed changes; docs/RULES.md has them too): an
-//! engine of one command. Each address has a bit, which says whether it is held,
-//! and a value.
+//! The byte map (F-2 and F-3 in 02, the agreed changes; docs/RULES.md has them
+//! too): an engine of one command. Each address has a bit, which says whether it
+//! is held, and a value.
 //!
 //! A call takes the map apart into cells, each with its byte or with none, does
 //! its work on them, and puts the map together again.
 
 use crate::book::Span;
-use crate::cache::{Ended, Fetched};
+use crate::cache::{Ended, Fetched, Written};
 use crate::limits::{BYTES_PER_CALL, MAP_ADDRESSES, MAP_WORDS, RECORDS_PER_COMMAND};
 use crate::refusal::{refuse_first, Refusal};
 
@@ -56,6 +56,14 @@ impl ByteMap {
             self.words[address / 64] |= u64::from(cell.is_some()) << (address % 64);
             self.values[address] = cell.unwrap_or(0);
         }
+    }
+
+    /// The same, unless there would be more than 64 runs.
+    fn put_or_refuse(&mut self, cells: &[Option<u8>]) -> Result<(), Refusal> {
+        let too_many = runs_of(cells).len() > RECORDS_PER_COMMAND;
+        refuse_first([(too_many, Refusal::TooManyRecords)])?;
+        self.put(cells);
+        Ok(())
     }
 
     /// Whether the map keeps the three rules of F-2: a closed one has no bit set,
@@ -136,10 +144,7 @@ pub fn fetch(
     let span = address as usize..end as usize;
     let mut cells = map.cells();
     let fresh = take_in(&mut cells[span.clone()], &window[span.clone()]);
-    let too_many = runs_of(&cells).len() > RECORDS_PER_COMMAND;
-    refuse_first([(too_many, Refusal::TooManyRecords)])?;
-
-    map.put(&cells);
+    map.put_or_refuse(&cells)?;
     let delivered = cells[span].iter().flatten();
     for (place, value) in destination.iter_mut().zip(delivered) {
         *place = *value;
@@ -159,6 +164,44 @@ fn take_in(cells: &mut [Option<u8>], window: &[u8]) -> u64 {
             *cell = Some(*byte);
             fresh += 1;
         }
+    }
+    fresh
+}
+
+/// Writes bytes into the window and holds them, also where others are held.
+/// Answers how many they are and how many of their addresses were not held.
+pub fn own_write(
+    map: &mut ByteMap,
+    window: &mut [u8],
+    address: u64,
+    data: &[u8],
+) -> Result<Written, Refusal> {
+    let end = u128::from(address) + data.len() as u128;
+    refuse_first([
+        (data.len() > BYTES_PER_CALL, Refusal::LengthTooLong),
+        (window.len() > MAP_ADDRESSES, Refusal::WindowBeyondMap),
+        (end > window.len() as u128, Refusal::PastWindow),
+        (!map.holds_together(), Refusal::BrokenBook),
+        (map.is_closed(), Refusal::NotOpen),
+    ])?;
+
+    let span = address as usize..end as usize;
+    let mut cells = map.cells();
+    let fresh = take_over(&mut cells[span.clone()], data);
+    map.put_or_refuse(&cells)?;
+    window[span].copy_from_slice(data);
+    Ok(Written {
+        bytes: data.len() as u64,
+        fresh,
+    })
+}
+
+/// Fills the cells with the data, and answers how many held nothing.
+fn take_over(cells: &mut [Option<u8>], data: &[u8]) -> u64 {
+    let mut fresh = 0;
+    for (cell, byte) in cells.iter_mut().zip(data) {
+        let before = cell.replace(*byte);
+        fresh += u64::from(before.is_none());
     }
     fresh
 }

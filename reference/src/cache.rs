@@ -20,6 +20,15 @@ pub struct Fetched {
     pub replayed: u64,
 }
 
+/// The two numbers of an accepted own write.
+#[derive(Clone, Copy, Debug, PartialEq, Eq)]
+pub struct Written {
+    /// How many bytes were written.
+    pub bytes: u64,
+    /// Addresses of the span that were in no record before.
+    pub fresh: u64,
+}
+
 /// What a command had when it was ended.
 #[derive(Clone, Copy, Debug, PartialEq, Eq)]
 pub struct Ended {
@@ -73,13 +82,7 @@ pub fn fetch(
     let part = &mut store[part_of(command)];
     let mut held = Held::unpack(entry, part);
     let fresh = held.take_in(span, window);
-    refuse_lowest([
-        (held.bytes.len() > HELD_PER_COMMAND, Refusal::TooManyBytes),
-        (
-            held.runs().len() > RECORDS_PER_COMMAND,
-            Refusal::TooManyRecords,
-        ),
-    ])?;
+    refuse_beyond_limits(&held)?;
 
     held.pack(entry, part);
     for (place, byte) in destination.iter_mut().zip(held.bytes_of(span)) {
@@ -126,15 +129,18 @@ pub fn host_write(window: &mut [u8], address: u64, data: &[u8]) -> Result<u64, R
     Ok(span.length)
 }
 
-/// The rule "Own write": the same for an open command, whose records and held
-/// bytes stay as they are.
+/// The rule "Own write" as F-3 of 02 (the agreed changes; docs/RULES.md has them
+/// too) has it: the same for an open command, which from then on holds the
+/// written bytes, also where it held others. Answers how many bytes were written
+/// and how many of their addresses were not held.
 pub fn own_write(
-    book: &Book,
+    book: &mut Book,
+    store: &mut [u8],
     window: &mut [u8],
     command: u64,
     address: u64,
     data: &[u8],
-) -> Result<u64, Refusal> {
+) -> Result<Written, Refusal> {
     let span = Span {
         start: address,
         length: data.len() as u64,
@@ -143,12 +149,24 @@ pub fn own_write(
         (data.len() > BYTES_PER_CALL, Refusal::LengthTooLong),
         (no_such_command(command), Refusal::NoSuchCommand),
         (window.len() > WINDOW_BYTES, Refusal::WindowTooLong),
+        (store.len() != STORE_BYTES, Refusal::StoreLength),
         (span.end() > window.len() as u128, Refusal::PastWindow),
         (!book.holds_together(), Refusal::BrokenBook),
         (!book.is_open(command), Refusal::NotOpen),
     ])?;
+
+    let entry = &mut book.commands[command as usize];
+    let part = &mut store[part_of(command)];
+    let mut held = Held::unpack(entry, part);
+    let fresh = held.take_over(span, data);
+    refuse_beyond_limits(&held)?;
+
+    held.pack(entry, part);
     copy_into(window, address, data);
-    Ok(span.length)
+    Ok(Written {
+        bytes: span.length,
+        fresh,
+    })
 }
 
 /// The rule "Show": gives the record of that index, counted from 0, of an open
@@ -162,6 +180,15 @@ pub fn show(book: &Book, command: u64, index: u64) -> Result<Span, Refusal> {
         (index >= count, Refusal::NoSuchRecord),
     ])?;
     Ok(book.commands[command as usize].entries[index as usize])
+}
+
+/// Refuses what a command would hold if that is more than it may.
+fn refuse_beyond_limits(held: &Held) -> Result<(), Refusal> {
+    let records = held.runs().len();
+    refuse_lowest([
+        (held.bytes.len() > HELD_PER_COMMAND, Refusal::TooManyBytes),
+        (records > RECORDS_PER_COMMAND, Refusal::TooManyRecords),
+    ])
 }
 
 /// Whether the number is above that of the last command.

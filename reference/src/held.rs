@@ -34,10 +34,19 @@ impl Held {
         (self.bytes.len() - held_before) as u64
     }
 
+    /// Takes in each byte of the span from the data, over those that are held,
+    /// and answers how many were not held yet ("Own write" in F-3 of 02, the
+    /// agreed changes; docs/RULES.md has them too).
+    pub fn take_over(&mut self, span: Span, data: &[u8]) -> u64 {
+        let held_before = self.bytes.len();
+        self.bytes
+            .extend(span.addresses().zip(data.iter().copied()));
+        (self.bytes.len() - held_before) as u64
+    }
+
     /// The longest unbroken runs of held addresses, ascending. They are the
     /// records: a span is joined with every record that shares a byte with it
-    /// or touches it (F-1 of 02, the agreed changes; docs/RULES.md has them
-    /// too).
+    /// or touches it (F-1 of 02).
     pub fn runs(&self) -> Vec<Span> {
         let mut runs: Vec<Span> = vec![];
         for &address in self.bytes.keys() {

@@ -100,8 +100,9 @@ fn call(book: &mut Book, lent: &mut Lent, step: Step) -> Result<Vec<String>, Ref
             address,
             data,
         } => {
-            let written = cache::own_write(book, lent.window, command, address, data)?;
-            Ok(vec![written.to_string()])
+            let Lent { store, window, .. } = lent;
+            let written = cache::own_write(book, store, window, command, address, data)?;
+            Ok(vec![written.bytes.to_string(), written.fresh.to_string()])
         }
     }
 }

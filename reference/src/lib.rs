@@ -1,10 +1,10 @@
 //! A second opinion on the command fetch cache, written from documents 01 (the
-//! agreed scope) and 02 (the agreed changes; of it F-1 and F-2) alone.
+//! agreed scope) and 02 (the agreed changes; of it F-1 to F-3) alone.
 //! docs/RULES.md has their rules.
 //!
-//! A fetch is worked out here through a map from address to held byte, whose
-//! unbroken runs are the records, and only then packed back into the book and
-//! the store.
+//! A fetch or an own write is worked out here through a map from address to
+//! held byte, whose unbroken runs are the records, and only then packed back
+//! into the book and the store.
 //!
 //! - [`limits`]: the constants of the device.
 //! - [`refusal`]: the numbers with which a call or a frame is turned away.

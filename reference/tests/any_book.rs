@@ -76,8 +76,24 @@ fn any_book_that_holds_together_is_served_by_the_rules() {
     }
     assert!(tally.accepted_fetches > 2_000, "{tally:?}");
     assert!(tally.joins > 150 && tally.mixed > 250, "{tally:?}");
+    assert!(tally.mixed_writes > 25, "{tally:?}");
     assert!(tally.refused(23) > 50, "{tally:?}");
     assert!(tally.refused(24) > 10, "{tally:?}");
+}
+
+#[test]
+fn written_bytes_come_to_stand_in_the_store_whatever_the_window_says() {
+    let mut scene = Scene::with_records(4, &[(100, 2), (103, 3), (50_000, 1)]);
+    let part = 4 * 4_096;
+    scene.store[part..part + 8].copy_from_slice(&[1, 2, 3, 4, 5, 6, 7, 8]);
+    scene.window.fill(0xee);
+    assert_eq!(scene.own_write(4, 101, &[21, 22, 23]), Ok((3, 1)));
+    let packed = [1, 21, 22, 23, 4, 5, 6, 8];
+    assert_eq!(scene.store[part..part + 8], packed);
+    assert_eq!(scene.own_write(4, 50_000, &[26]), Ok((1, 0)));
+    let packed = [1, 21, 22, 23, 4, 5, 26, 8];
+    assert_eq!(scene.store[part..part + 8], packed);
+    assert_eq!(scene.records(4), [(100, 6), (50_000, 1)]);
 }
 
 #[test]

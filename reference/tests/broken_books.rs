@@ -157,6 +157,7 @@ fn each_broken_book_is_refused_by_every_call_that_takes_one() {
                 assert_eq!(scene.fetch(command, 0, 0), Err(20), "{name}");
                 assert_eq!(scene.end(command), Err(20), "{name}");
                 assert_eq!(scene.own_write(command, 0, &[7]), Err(20), "{name}");
+                assert_eq!(scene.own_write(command, 0, &[]), Err(20), "{name}");
                 assert_eq!(scene.show(command, 0), Err(20), "{name}");
             }
             assert_eq!(scene.host_write(0, &[7]), Ok(1), "{name}");
@@ -174,7 +175,7 @@ fn each_sound_book_is_taken() {
             let other = (place + 1) % 8;
             assert_eq!(scene.begin(other), Ok(()), "{name}");
             assert_eq!(scene.fetch(other, 3, 2), Ok((2, 0)), "{name}");
-            assert_eq!(scene.own_write(other, 3, &[7]), Ok(1), "{name}");
+            assert_eq!(scene.own_write(other, 3, &[7]), Ok((1, 0)), "{name}");
             assert_eq!(scene.show(other, 0), Ok((3, 2)), "{name}");
             assert_eq!(scene.end(other), Ok((1, 2)), "{name}");
             assert_eq!(scene.book.commands[place as usize], sound, "{name}");

@@ -20,6 +20,13 @@ fn refused(name: &str, map: &ByteMap) {
             Err(20),
             "{name}, all of the window"
         );
+        assert_eq!(scene.own_write(0, &[]), Err(20), "{name}");
+        let data = vec![7; window_length];
+        assert_eq!(
+            scene.own_write(0, &data),
+            Err(20),
+            "{name}, over all of the window"
+        );
         assert_eq!(scene.end(), Err(20), "{name}");
     }
 }
@@ -35,6 +42,7 @@ fn taken(name: &str, map: &ByteMap) {
     } else {
         assert_eq!(scene.begin(), Err(22), "{name}");
         assert_eq!(scene.fetch(0, 0), Ok((0, 0)), "{name}");
+        assert_eq!(scene.own_write(0, &[]), Ok((0, 0)), "{name}");
         let total = map.held();
         assert_eq!(scene.fetch(0, 4_096), Ok((4_096 - total, total)), "{name}");
         assert_eq!(scene.end(), Ok((1, 4_096)), "{name}");

@@ -302,9 +302,12 @@ fn fetch_23_and_24_of_a_span_that_touches_and_of_one_that_does_not() {
     assert_eq!(scene.end(1), Ok((64, 4_096)));
 }
 
-#[test]
-fn fetch_joins_what_it_touches_on_either_side_and_on_both() {
-    for (span, left) in [
+/// A span that is taken in, and the records after it.
+type Join = ((usize, usize), Vec<(u64, u64)>);
+
+/// Spans taken in by a command with the records 10+2, 20+2 and 30+2.
+fn joins() -> [Join; 13] {
+    [
         ((12, 3), vec![(10, 5), (20, 2), (30, 2)]),
         ((18, 2), vec![(10, 2), (18, 4), (30, 2)]),
         ((12, 8), vec![(10, 12), (30, 2)]),
@@ -314,9 +317,16 @@ fn fetch_joins_what_it_touches_on_either_side_and_on_both() {
         ((32, 1), vec![(10, 2), (20, 2), (30, 3)]),
         ((9, 1), vec![(9, 3), (20, 2), (30, 2)]),
         ((8, 1), vec![(8, 1), (10, 2), (20, 2), (30, 2)]),
+        ((11, 10), vec![(10, 12), (30, 2)]),
+        ((21, 1), vec![(10, 2), (20, 2), (30, 2)]),
         ((12, 0), vec![(10, 2), (20, 2), (30, 2)]),
         ((20, 0), vec![(10, 2), (20, 2), (30, 2)]),
-    ] {
+    ]
+}
+
+#[test]
+fn fetch_joins_what_it_touches_on_either_side_and_on_both() {
+    for (span, left) in joins() {
         let mut scene = Scene::with_records(1, &[(10, 2), (20, 2), (30, 2)]);
         let held = scene.store[4_096..4_102].to_vec();
         let expected = scene.window_at(span.0, span.1);
@@ -375,16 +385,18 @@ fn fetch_leaves_the_store_behind_the_held_bytes_and_the_destination_behind_the_s
 }
 
 #[test]
-fn fetch_of_no_bytes_changes_nothing() {
+fn a_fetch_or_an_own_write_of_no_bytes_changes_nothing() {
     let touched = vec![(8, 56), (65, 35), (101, 27), (4_103, 1), (65_535, 1)];
     for records in [vec![], touched, vec![(7, 4_096)], evenly(64, 128, 64)] {
         let mut scene = Scene::with_records(3, &records);
         let before = scene.clone();
         for address in [0, 7, 8, 64, 100, 128, 4_103, 9_000, 65_535, 65_536] {
             assert_eq!(scene.fetch(3, address, 0), Ok((0, 0)));
+            assert_eq!(scene.own_write(3, address, &[]), Ok((0, 0)));
             assert!(scene == before);
         }
         assert_eq!(scene.fetch(3, 65_537, 0), Err(9));
+        assert_eq!(scene.own_write(3, 65_537, &[]), Err(9));
     }
 }
 
@@ -430,7 +442,7 @@ fn own_write_4_more_than_4096_bytes() {
     let mut scene = all_open(65_536);
     assert_eq!(scene.own_write(7, 0, &[7; 4_097]), Err(4));
     assert_eq!(scene.own_write(7, 0, &[7; 60_000]), Err(4));
-    assert_eq!(scene.own_write(7, 0, &[7; 4_096]), Ok(4_096));
+    assert_eq!(scene.own_write(7, 0, &[7; 4_096]), Ok((4_096, 4_096)));
 }
 
 #[test]
@@ -440,7 +452,7 @@ fn own_write_6_command_above_7() {
         assert_eq!(scene.own_write(command, 0, &[7]), Err(6));
     }
     for command in 0..8 {
-        assert_eq!(scene.own_write(command, 0, &[7]), Ok(1));
+        assert_eq!(scene.own_write(command, 0, &[7]), Ok((1, 1)));
     }
 }
 
@@ -450,7 +462,19 @@ fn own_write_7_window_longer_than_65536() {
         assert_eq!(all_open(length).own_write(0, 0, &[7]), Err(7));
         assert_eq!(all_open(length).own_write(0, 0, &[]), Err(7));
     }
-    assert_eq!(all_open(65_536).own_write(0, 0, &[7]), Ok(1));
+    assert_eq!(all_open(65_536).own_write(0, 0, &[7]), Ok((1, 1)));
+}
+
+#[test]
+fn own_write_8_store_not_32768_bytes() {
+    for length in WRONG_STORES {
+        let mut scene = Scene::with_records(2, &[(0, 4)]);
+        scene.store.resize(length, 0x5a);
+        for data in [&[][..], &[7], &[7; 5]] {
+            assert_eq!(scene.own_write(2, 0, data), Err(8));
+        }
+    }
+    assert_eq!(with_store_of(32_768).own_write(2, 0, &[7]), Ok((1, 1)));
 }
 
 #[test]
@@ -464,9 +488,14 @@ fn own_write_9_span_past_the_window() {
             }
             if length <= window_length {
                 let last = window_length - length;
+                let all = length as u64;
                 let mut expected = scene.clone();
                 expected.window[last..].copy_from_slice(&data);
-                assert_eq!(scene.own_write(1, last as u64, &data), Ok(length as u64));
+                expected.store[4_096..4_096 + length].copy_from_slice(&data);
+                if length > 0 {
+                    expected.book.commands[1] = open_with(&[(last as u64, all)]);
+                }
+                assert_eq!(scene.own_write(1, last as u64, &data), Ok((all, all)));
                 assert!(scene == expected);
             }
         }
@@ -481,10 +510,130 @@ fn own_write_21_command_not_open() {
         assert_eq!(scene.own_write(command, 0, &[7]), Err(21));
         assert_eq!(scene.own_write(command, 0, &[]), Err(21));
         scene.begin(command).unwrap();
-        assert_eq!(scene.own_write(command, 0, &[7]), Ok(1));
+        assert_eq!(scene.own_write(command, 0, &[7]), Ok((1, 1)));
         scene.end(command).unwrap();
         assert_eq!(scene.own_write(command, 0, &[7]), Err(21));
     }
+}
+
+/// Makes own writes of a command with these records, one after the other. A row
+/// has address and length, and the number due or how many addresses are new.
+fn own_writes(records: &[(u64, u64)], rows: &[(u64, u64, Result<u64, u8>)]) -> Scene {
+    let mut scene = Scene::with_records(1, records);
+    for &(address, length, answer) in rows {
+        let data = vec![0x77; length as usize];
+        let expected = answer.map(|new| (length, new));
+        let row = format!("{address}+{length}");
+        assert_eq!(scene.own_write(1, address, &data), expected, "{row}");
+    }
+    scene
+}
+
+#[test]
+fn own_write_23_held_bytes_would_pass_4096() {
+    let rows = [
+        (6_000, 2, Err(23)),
+        (999, 3, Ok(1)),
+        (6_000, 1, Err(23)),
+        (998, 2, Err(23)),
+        (5_094, 2, Err(23)),
+        (999, 4_096, Ok(0)),
+        (6_000, 0, Ok(0)),
+    ];
+    let mut scene = own_writes(&[(1_000, 4_095)], &rows);
+    assert_eq!(scene.end(1), Ok((1, 4_096)));
+}
+
+#[test]
+fn own_write_23_counts_only_the_new_bytes_of_a_span_over_several_records() {
+    let records = [(0, 1_000), (2_000, 1_000), (10_000, 1_096)];
+    let rows = [
+        (0, 3_001, Err(23)),
+        (0, 3_000, Ok(1_000)),
+        (2_999, 2, Err(23)),
+    ];
+    let mut scene = own_writes(&records, &rows);
+    assert_eq!(scene.records(1), [(0, 3_000), (10_000, 1_096)]);
+}
+
+#[test]
+fn own_write_24_records_would_pass_64() {
+    let rows = [
+        (252, 1, Ok(1)),
+        (256, 1, Err(24)),
+        (2, 1, Err(24)),
+        (250, 1, Err(24)),
+        (60_000, 100, Err(24)),
+        (60_000, 0, Ok(0)),
+        (252, 1, Ok(0)),
+        (252, 2, Ok(1)),
+        (60_000, 1, Err(24)),
+        (4, 5, Ok(3)),
+        (60_000, 1, Ok(1)),
+        (60_002, 1, Err(24)),
+        (0, 4_000, Ok(3_932)),
+    ];
+    let mut scene = own_writes(&evenly(63, 4, 1), &rows);
+    assert_eq!(scene.records(1), [(0, 4_000), (60_000, 1)]);
+    own_writes(&evenly(64, 128, 64), &[(66, 1, Err(23)), (64, 1, Err(23))]);
+    own_writes(&evenly(64, 128, 63), &[(65, 1, Err(24)), (63, 1, Ok(1))]);
+}
+
+#[test]
+fn own_write_holds_its_bytes_over_those_held_and_joins_as_a_fetch_does() {
+    for (span, left) in joins() {
+        let mut scene = Scene::with_records(1, &[(10, 2), (20, 2), (30, 2)]);
+        let mut expected = scene.window.clone();
+        let held = scene.store[4_096..4_102].to_vec();
+        for (address, byte) in [10, 11, 20, 21, 30, 31].into_iter().zip(held) {
+            expected[address] = byte;
+        }
+        let data: Vec<u8> = (0..span.1).map(|place| 100 + place as u8).collect();
+        expected[span.0..span.0 + span.1].copy_from_slice(&data);
+        let new = left.iter().map(|record| record.1).sum::<u64>() - 6;
+        let answer = scene.own_write(1, span.0 as u64, &data);
+        assert_eq!(answer, Ok((span.1 as u64, new)));
+        assert_eq!(scene.window_at(span.0, span.1), data);
+        assert_eq!(scene.records(1), left);
+        scene.window.fill(0);
+        for (start, length) in left {
+            assert_eq!(scene.fetch(1, start, length), Ok((0, length)));
+            let (start, length) = (start as usize, length as usize);
+            assert_eq!(scene.destination[..length], expected[start..][..length]);
+        }
+    }
+}
+
+#[test]
+fn own_write_leaves_the_store_behind_the_held_bytes_and_every_other_part() {
+    let mut scene = Scene::with_records(3, &[(10, 2), (20, 2)]);
+    let part = 3 * 4_096;
+    let mut expected = scene.clone();
+    let held = scene.store[part..part + 4].to_vec();
+    expected.book.commands[3] = open_with(&[(10, 5), (20, 2)]);
+    let written = [61, 62, 63, 64];
+    let packed = [&held[..1], &written, &held[2..]].concat();
+    expected.store[part..part + 7].copy_from_slice(&packed);
+    expected.window[11..15].copy_from_slice(&written);
+    assert_eq!(scene.own_write(3, 11, &written), Ok((4, 3)));
+    assert!(scene == expected);
+}
+
+#[test]
+fn a_write_in_part_over_fetched_bytes_changes_those_alone() {
+    let mut scene = Scene::with_open(5);
+    let fetched = scene.window_at(100, 6);
+    assert_eq!(scene.fetch(5, 100, 6), Ok((6, 0)));
+    assert_eq!(scene.own_write(5, 102, &[1, 2]), Ok((2, 0)));
+    assert_eq!(scene.own_write(5, 103, &[3]), Ok((1, 0)));
+    assert_eq!(scene.own_write(5, 200, &[4]), Ok((1, 1)));
+    assert_eq!(scene.host_write(100, &[9; 101]), Ok(101));
+    assert_eq!(scene.fetch(5, 100, 6), Ok((0, 6)));
+    let expected = [&fetched[..2], &[1, 3], &fetched[4..]].concat();
+    assert_eq!(scene.destination[..6], expected);
+    assert_eq!(scene.fetch(5, 199, 3), Ok((2, 1)));
+    assert_eq!(scene.destination[..2], [9, 4]);
+    assert_eq!(scene.end(5), Ok((2, 9)));
 }
 
 #[test]

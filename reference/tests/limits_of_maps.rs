@@ -215,6 +215,110 @@ fn held_values_come_from_the_map_whatever_the_window_says() {
 }
 
 #[test]
+fn own_write_4_length_above_4096() {
+    for length in [4_097, 8_192, 1 << 16] {
+        assert_eq!(opened(4_096).own_write(0, &vec![7; length]), Err(4));
+    }
+    let answer = opened(4_096).own_write(0, &[7; 4_096]);
+    assert_eq!(answer, Ok((4_096, 4_096)));
+}
+
+#[test]
+fn own_write_30_window_above_4096() {
+    for length in [4_097, 8_192, 65_536, 65_537] {
+        for address in [0, 4_095, 4_096, u64::MAX] {
+            for data in [&[][..], &[7]] {
+                assert_eq!(opened(length).own_write(address, data), Err(30));
+            }
+        }
+    }
+    assert_eq!(opened(4_096).own_write(4_095, &[7]), Ok((1, 1)));
+}
+
+#[test]
+fn own_write_9_past_the_window() {
+    for length in WINDOWS {
+        let end = length as u64;
+        for count in (0..=3).chain([length]).filter(|count| *count <= length) {
+            let (data, last) = (vec![7; count], end - count as u64);
+            let all = (count as u64, count as u64);
+            assert_eq!(opened(length).own_write(last, &data), Ok(all));
+            assert_eq!(opened(length).own_write(last + 1, &data), Err(9));
+            let wrapping = u64::MAX - last;
+            assert_eq!(opened(length).own_write(wrapping, &data), Err(9));
+        }
+    }
+    let mut scene = MapScene::with_runs(20, &[(16, 8)]);
+    assert_eq!(scene.own_write(16, &[7; 5]), Err(9));
+    assert_eq!(scene.own_write(16, &[7; 4]), Ok((4, 0)));
+}
+
+#[test]
+fn own_write_21_not_open() {
+    for data in [&[][..], &[7], &[7; 4_096]] {
+        assert_eq!(MapScene::fresh(4_096).own_write(0, data), Err(21));
+    }
+}
+
+#[test]
+fn own_write_24_a_65th_run() {
+    for (address, length, answer, runs) in [
+        (128, 1, Err(24), 64),
+        (4_095, 1, Err(24), 64),
+        (130, 3_000, Err(24), 64),
+        (128, 0, Ok(0), 64),
+        (126, 1, Ok(0), 64),
+        (127, 1, Ok(1), 64),
+        (127, 3_969, Ok(3_969), 64),
+        (0, 3, Ok(1), 63),
+        (0, 4_096, Ok(4_032), 1),
+    ] {
+        let mut scene = MapScene::with_runs(4_096, &evenly(64, 2, 1));
+        let expected = answer.map(|new| (length as u64, new));
+        assert_eq!(scene.own_write(address, &vec![7; length]), expected);
+        assert_eq!(scene.runs().len(), runs);
+    }
+    let mut scene = MapScene::with_runs(4_096, &evenly(63, 2, 1));
+    assert_eq!(scene.own_write(4_095, &[7]), Ok((1, 1)));
+    assert_eq!(scene.own_write(4_093, &[7]), Err(24));
+}
+
+#[test]
+fn own_write_sets_window_bits_and_values_of_its_span_and_no_others() {
+    for (address, length) in [(0, 0), (0, 1), (63, 2), (60, 8), (1, 4_094), (4_095, 1)] {
+        for open in OPEN {
+            let mut scene = MapScene::with_runs(4_096, &[(62, 4)]);
+            scene.map.open = open;
+            let mut expected = scene.clone();
+            let data: Vec<u8> = (0..length).map(|place| place as u8).collect();
+            let (start, end) = (address as usize, address as usize + length);
+            expected.window[start..end].copy_from_slice(&data);
+            expected.map = open_with(&[(62, 4), (address, length as u64)]);
+            expected.map.values[start..end].copy_from_slice(&data);
+            expected.map.open = open;
+            let new = expected.map.held() - 4;
+            let answer = scene.own_write(address, &data);
+            assert_eq!(answer, Ok((length as u64, new)));
+            assert!(scene == expected);
+        }
+    }
+}
+
+#[test]
+fn a_map_gives_what_was_written_and_not_what_the_window_says() {
+    let mut scene = opened(4_096);
+    let fetched = scene.window[60..64].to_vec();
+    assert_eq!(scene.fetch(60, 4), Ok((4, 0)));
+    assert_eq!(scene.own_write(62, &[1, 2, 3]), Ok((3, 1)));
+    assert_eq!(scene.own_write(63, &[0]), Ok((1, 0)));
+    scene.window.fill(0xee);
+    assert_eq!(scene.fetch(60, 6), Ok((1, 5)));
+    let expected = [&fetched[..2], &[1, 0, 3, 0xee]].concat();
+    assert_eq!(scene.destination[..6], expected);
+    assert_eq!(scene.end(), Ok((1, 6)));
+}
+
+#[test]
 fn a_map_forgets_with_its_end() {
     let mut scene = MapScene::fresh(4_096);
     scene.begin().unwrap();

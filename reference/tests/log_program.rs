@@ -24,7 +24,7 @@ fn one_line_for_each_kind() {
     .concat();
     assert_eq!(
         log::run(&input),
-        "1 B ok\n2 H ok 3\n3 W ok 2\n4 F ok 7 0 00ab0cff109f00\n5 E ok 1 7\n"
+        "1 B ok\n2 H ok 3\n3 W ok 2 2\n4 F ok 5 2 00ab0cff109f00\n5 E ok 1 7\n"
     );
 }
 
@@ -40,7 +40,7 @@ fn no_bytes_are_printed_as_a_dash() {
     .concat();
     assert_eq!(
         log::run(&input),
-        "1 B ok\n2 F ok 0 0 -\n3 H ok 0\n4 W ok 0\n5 E ok 0 0\n"
+        "1 B ok\n2 F ok 0 0 -\n3 H ok 0\n4 W ok 0 0\n5 E ok 0 0\n"
     );
 }
 
@@ -70,16 +70,20 @@ fn full_commands_print_23_and_24() {
     let mut input = frame(0, 0, 0, 0, &[]);
     input.extend(frame(1, 0, 0, 4_096, &[]));
     input.extend(frame(1, 0, 4_096, 1, &[]));
+    input.extend(frame(4, 0, 4_095, 2, &[7, 7]));
     input.extend(frame(0, 1, 0, 0, &[]));
     for address in (0..=128).step_by(2) {
         input.extend(frame(1, 1, address, 1, &[]));
     }
+    input.extend(frame(4, 1, 128, 1, &[7]));
+    input.extend(frame(4, 1, 126, 3, &[7, 8, 9]));
+    input.extend(frame(1, 1, 125, 5, &[]));
     let mut expected = format!("1 B ok\n2 F ok 4096 0 {}\n", "00".repeat(4_096));
-    expected += "3 F no 23\n4 B ok\n";
-    for line in 5..69 {
+    expected += "3 F no 23\n4 W no 23\n5 B ok\n";
+    for line in 6..70 {
         expected += &format!("{line} F ok 1 0 00\n");
     }
-    expected += "69 F no 24\n";
+    expected += "70 F no 24\n71 W no 24\n72 W ok 3 2\n73 F ok 2 3 0007080900\n";
     assert_eq!(log::run(&input), expected);
 }
 
@@ -167,6 +171,11 @@ fn input_of_32769_bytes_is_too_long() {
     assert_eq!(log::run(&[0; 100_000]), "input too long\n");
 }
 
+/// Both numbers of a reply as a line has them.
+fn two_numbers((one, other): (u64, u64)) -> String {
+    format!(" {one} {other}")
+}
+
 /// Makes one frame, and the letter and the rest of the line it must have.
 fn any_frame(generator: &mut Generator, model: &mut Model) -> (Vec<u8>, char, Result<String, u8>) {
     let command = generator.below(3);
@@ -183,9 +192,8 @@ fn any_frame(generator: &mut Generator, model: &mut Model) -> (Vec<u8>, char, Re
             (frame(0, command, 0, 0, &[]), 'B', answer)
         }
         2 => {
-            let answer = model.end(command);
-            let rest = answer.map(|(records, bytes)| format!(" {records} {bytes}"));
-            (frame(2, command, 0, 0, &[]), 'E', rest)
+            let answer = model.end(command).map(two_numbers);
+            (frame(2, command, 0, 0, &[]), 'E', answer)
         }
         3 | 4 => {
             let data = generator.bytes(length.min(500) as usize);
@@ -197,7 +205,7 @@ fn any_frame(generator: &mut Generator, model: &mut Model) -> (Vec<u8>, char, Re
             let data = generator.bytes(length.min(500) as usize);
             let answer = model.own_write(command, address, &data);
             let bytes = frame(4, command, address, data.len() as u64, &data);
-            (bytes, 'W', answer.map(|count| format!(" {count}")))
+            (bytes, 'W', answer.map(two_numbers))
         }
         _ => {
             let rest = model.fetch(command, address, length).map(|delivery| {

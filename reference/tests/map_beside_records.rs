@@ -1,8 +1,9 @@
-//! The byte map and the record engine, given the same begins, fetches and ends of
-//! one command over windows of at most 4,096 bytes (F-2 in 02, the agreed changes;
-//! docs/RULES.md has them too). After each call the answers and the destinations
-//! are equal, the runs are the command's records, the ones are their total, and
-//! the held values are the bytes at the front of its part of the store.
+//! The byte map and the record engine, given the same begins, fetches, own writes
+//! and ends of one command over windows of at most 4,096 bytes (F-2 and F-3 in
+//! 02, the agreed changes; docs/RULES.md has them too). After each call the
+//! answers, the destinations and the windows are equal, the runs are the command's
+//! records, the ones are their total, and the held values are the bytes at the
+//! front of its part of the store.
 
 use std::collections::BTreeMap;
 
@@ -34,6 +35,8 @@ struct Tally {
     refusals: BTreeMap<(&'static str, u8), u64>,
     /// Fetches that had both fresh and replayed bytes.
     mixed: u64,
+    /// Own writes over some addresses that were held and some that were not.
+    mixed_writes: u64,
     most_runs: usize,
 }
 
@@ -97,6 +100,15 @@ impl Both {
         tally.count("fetch", &answer);
         if let Ok((fresh, replayed)) = answer {
             tally.mixed += u64::from(fresh > 0 && replayed > 0);
+        }
+    }
+
+    fn own_write(&mut self, address: u64, data: &[u8], tally: &mut Tally) {
+        let answer = self.map.own_write(address, data);
+        assert_eq!(answer, self.records.own_write(self.command, address, data));
+        tally.count("own write", &answer);
+        if let Ok((bytes, new)) = answer {
+            tally.mixed_writes += u64::from(0 < new && new < bytes);
         }
     }
 
@@ -173,6 +185,10 @@ fn run_list(profile: &Profile, command: u64, generator: &mut Generator, tally: &
             (0, _) if !generator.one_in(4) => both.begin(tally),
             (_, 0) => both.end(tally),
             (_, 1) => both.begin(tally),
+            _ if generator.one_in(5) => {
+                let data = generator.bytes(length.min(9_000) as usize);
+                both.own_write(address, &data, tally);
+            }
             _ => both.fetch(address, length, tally),
         }
         both.compare(tally);
@@ -190,6 +206,7 @@ fn many_small_spans_up_to_the_last_run() {
         span: spans::small,
     });
     assert!(tally.refused("fetch", 24) > 500, "{tally:?}");
+    assert!(tally.refused("own write", 24) > 100, "{tally:?}");
     assert_eq!(tally.most_runs, 64, "{tally:?}");
 }
 
@@ -225,6 +242,7 @@ fn overlapping_spans_in_a_narrow_place() {
         span: spans::overlapping,
     });
     assert!(tally.mixed > 1_000, "{tally:?}");
+    assert!(tally.mixed_writes > 250, "{tally:?}");
     assert!(tally.refused("fetch", 10) > 50, "{tally:?}");
 }
 
@@ -281,7 +299,8 @@ fn many_begins_and_ends() {
     for (name, number) in [("begin", 22), ("end", 21), ("fetch", 21)] {
         assert!(tally.refused(name, number) > 500, "{tally:?}");
     }
-    for name in ["begin", "end", "fetch"] {
+    assert!(tally.refused("own write", 21) > 200, "{tally:?}");
+    for name in ["begin", "end", "fetch", "own write"] {
         assert!(tally.accepted(name) > 500, "{tally:?}");
     }
 }
@@ -304,4 +323,6 @@ fn spans_of_all_sizes_and_any_numbers() {
     assert!(tally.refused("fetch", 9) > 500, "{tally:?}");
     assert!(tally.refused("fetch", 4) > 50, "{tally:?}");
     assert!(tally.accepted("fetch") > 1_000, "{tally:?}");
+    assert!(tally.refused("own write", 9) > 100, "{tally:?}");
+    assert!(tally.refused("own write", 4) > 10, "{tally:?}");
 }

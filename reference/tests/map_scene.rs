@@ -45,6 +45,13 @@ impl MapScene {
         .map(|counts| (counts.fresh, counts.replayed))
     }
 
+    /// Answers how many bytes were written and how many of their addresses were
+    /// not held.
+    pub fn own_write(&mut self, address: u64, data: &[u8]) -> Result<(u64, u64), u8> {
+        self.guarded(|scene| byte_map::own_write(&mut scene.map, &mut scene.window, address, data))
+            .map(|written| (written.bytes, written.fresh))
+    }
+
     /// Answers the number of runs and of bytes.
     pub fn end(&mut self) -> Result<(u64, u64), u8> {
         self.guarded(|scene| byte_map::end(&mut scene.map))

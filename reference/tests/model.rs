@@ -1,7 +1,7 @@
 //! A model of the cache kept from the calls alone. For each command it has a
-//! map from address to the value first fetched since the begin; which record
-//! an address belongs to is a label on the address, and joining is a change of
-//! labels.
+//! map from address to the value that the command last wrote there since its
+//! begin, or else first fetched; which record an address belongs to is a label
+//! on the address, and joining is a change of labels.
 
 use std::collections::{BTreeMap, BTreeSet};
 
@@ -28,7 +28,8 @@ pub struct Delivery {
 /// window must contain.
 pub struct Model {
     commands: [Option<BTreeMap<u64, Cell>>; 8],
-    fresh_since_begin: [u64; 8],
+    /// The addresses that were not held when they were fetched or written.
+    new_since_begin: [u64; 8],
     labels: u64,
     pub store: Vec<u8>,
     pub window: Vec<u8>,
@@ -39,7 +40,7 @@ impl Model {
     pub fn fresh(store: &[u8], window: &[u8]) -> Model {
         Model {
             commands: [const { None }; 8],
-            fresh_since_begin: [0; 8],
+            new_since_begin: [0; 8],
             labels: 0,
             store: store.to_vec(),
             window: window.to_vec(),
@@ -62,7 +63,7 @@ impl Model {
                     held.insert(address, Cell { value, label });
                 }
             }
-            model.fresh_since_begin[number] = held.len() as u64;
+            model.new_since_begin[number] = held.len() as u64;
             model.commands[number] = Some(held);
         }
         model
@@ -74,13 +75,13 @@ impl Model {
             return Err(22);
         }
         self.commands[place] = Some(BTreeMap::new());
-        self.fresh_since_begin[place] = 0;
+        self.new_since_begin[place] = 0;
         self.zero_part(place);
         Ok(())
     }
 
-    /// Answers the number of records, and as the number of bytes the sum of
-    /// all fresh counts since the begin.
+    /// Answers the number of records, and as the number of bytes the sum over
+    /// all fetches and own writes since the begin of the addresses not held.
     pub fn end(&mut self, command: u64) -> Result<(u64, u64), u8> {
         let place = known(command)?;
         if self.commands[place].is_none() {
@@ -89,7 +90,7 @@ impl Model {
         let records = self.records(command).len() as u64;
         self.commands[place] = None;
         self.zero_part(place);
-        Ok((records, self.fresh_since_begin[place]))
+        Ok((records, self.new_since_begin[place]))
     }
 
     pub fn fetch(&mut self, command: u64, address: u64, length: u64) -> Result<Delivery, u8> {
@@ -98,10 +99,32 @@ impl Model {
         }
         let place = known(command)?;
         self.inside_window(address, length)?;
-        let held = self.commands[place].as_mut().ok_or(21)?;
+        let present = self.window[address as usize..][..length as usize].to_vec();
+        let (fresh, met) = self.hold(place, address, &present, |held, _| held)?;
+        let cells = self.commands[place].iter().flatten();
+        let of_span = cells.filter(|(at, _)| (address..address + length).contains(at));
+        Ok(Delivery {
+            fresh,
+            replayed: length - fresh,
+            bytes: of_span.map(|(_, cell)| cell.value).collect(),
+            met,
+        })
+    }
 
+    /// Takes a span into what a command holds; where it holds a value and is
+    /// given another, `chosen` says which of the two it has then. Answers how
+    /// many addresses were not held and how many records the span met.
+    fn hold(
+        &mut self,
+        place: usize,
+        address: u64,
+        values: &[u8],
+        chosen: fn(u8, u8) -> u8,
+    ) -> Result<(u64, usize), u8> {
+        let length = values.len() as u64;
+        let held = self.commands[place].as_mut().ok_or(21)?;
         let span = address..address + length;
-        let fresh = length as usize - held.range(span.clone()).count();
+        let fresh = values.len() - held.range(span.clone()).count();
         if held.len() + fresh > 4_096 {
             return Err(23);
         }
@@ -113,10 +136,10 @@ impl Model {
         }
 
         self.labels += 1;
-        for at in span.clone() {
-            let value = self.window[at as usize];
-            let label = self.labels;
-            held.entry(at).or_insert(Cell { value, label });
+        let label = self.labels;
+        for (at, &value) in span.zip(values) {
+            let cell = held.entry(at).or_insert(Cell { value, label });
+            cell.value = chosen(cell.value, value);
         }
         for cell in held.values_mut() {
             if met.contains(&cell.label) {
@@ -126,13 +149,8 @@ impl Model {
         for (number, cell) in held.values().enumerate() {
             self.store[4_096 * place + number] = cell.value;
         }
-        self.fresh_since_begin[place] += fresh as u64;
-        Ok(Delivery {
-            fresh: fresh as u64,
-            replayed: length - fresh as u64,
-            bytes: held.range(span).map(|(_, cell)| cell.value).collect(),
-            met: met.len(),
-        })
+        self.new_since_begin[place] += fresh as u64;
+        Ok((fresh as u64, met.len()))
     }
 
     pub fn host_write(&mut self, address: u64, data: &[u8]) -> Result<u64, u8> {
@@ -146,16 +164,16 @@ impl Model {
         Ok(data.len() as u64)
     }
 
-    pub fn own_write(&mut self, command: u64, address: u64, data: &[u8]) -> Result<u64, u8> {
+    /// Answers how many bytes were written and how many of their addresses were
+    /// not held.
+    pub fn own_write(&mut self, command: u64, address: u64, data: &[u8]) -> Result<(u64, u64), u8> {
         if data.len() > 4_096 {
             return Err(4);
         }
         let place = known(command)?;
         self.inside_window(address, data.len() as u64)?;
-        if self.commands[place].is_none() {
-            return Err(21);
-        }
-        self.host_write(address, data)
+        let (new, _) = self.hold(place, address, data, |_, written| written)?;
+        Ok((self.host_write(address, data)?, new))
     }
 
     pub fn show(&self, command: u64, index: u64) -> Result<(u64, u64), u8> {

@@ -70,7 +70,7 @@ fn end_gives_the_first_of_20_and_21() {
     seen.all_of(&numbers);
 }
 
-/// A scene with these flaws and the span to fetch in it; nothing if they cannot
+/// A scene with these flaws and a span to take in there; nothing if they cannot
 /// stand together.
 fn flawed(flaws: &[u8], way: Way, gross: bool) -> Option<(MapScene, u64, u64)> {
     let has = |number| flaws.contains(&number);
@@ -103,23 +103,42 @@ fn flawed(flaws: &[u8], way: Way, gross: bool) -> Option<(MapScene, u64, u64)> {
     Some((scene, address, length))
 }
 
-#[test]
-fn fetch_gives_the_first_of_its_list() {
-    let numbers = [4, 30, 9, 10, 20, 21, 24];
+/// Makes a call that takes a span in, with every choice of flaws from its list,
+/// and answers how many could be built.
+fn first_of_the_list(
+    numbers: &[u8],
+    call: impl Fn(&mut MapScene, u64, u64) -> Result<(u64, u64), u8>,
+) -> u64 {
     let mut seen = Seen::new();
     let mut built = 0;
     for (way, gross) in WAYS.into_iter().flat_map(|way| [(way, false), (way, true)]) {
-        for flaws in choices(&numbers) {
+        for flaws in choices(numbers) {
             let Some((mut scene, address, length)) = flawed(&flaws, way, gross) else {
                 continue;
             };
-            let answer = scene.fetch(address, length);
+            let answer = call(&mut scene, address, length);
             seen.check_one(answer, flaws.first().copied(), &flaws);
             built += 1;
         }
     }
-    seen.all_of(&numbers);
+    seen.all_of(numbers);
+    built
+}
+
+#[test]
+fn fetch_gives_the_first_of_its_list() {
+    let numbers = [4, 30, 9, 10, 20, 21, 24];
+    let built = first_of_the_list(&numbers, MapScene::fetch);
     assert!(built > 300, "{built}");
+}
+
+#[test]
+fn own_write_gives_the_first_of_its_list() {
+    let numbers = [4, 30, 9, 20, 21, 24];
+    let built = first_of_the_list(&numbers, |scene, address, length| {
+        scene.own_write(address, &vec![0x77; length.min(9_000) as usize])
+    });
+    assert!(built > 150, "{built}");
 }
 
 #[test]
@@ -128,6 +147,9 @@ fn thirty_comes_after_4_and_before_9() {
     assert_eq!(scene.fetch(4_097, 4_097), Err(4));
     assert_eq!(scene.fetch(4_097, 4_096), Err(30));
     assert_eq!(scene.fetch(4_098, 0), Err(30));
+    assert_eq!(scene.own_write(4_097, &[7; 4_097]), Err(4));
+    assert_eq!(scene.own_write(4_097, &[7; 4_096]), Err(30));
     scene.window.truncate(4_096);
     assert_eq!(scene.fetch(4_097, 4_096), Err(9));
+    assert_eq!(scene.own_write(4_097, &[7; 4_096]), Err(9));
 }

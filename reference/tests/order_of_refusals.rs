@@ -91,6 +91,39 @@ fn address_for(flaws: &[u8], gross: bool, window: usize, length: u64) -> u64 {
     }
 }
 
+/// A scene for a call of command 3 that takes in what it does not hold, with
+/// the flaws of window, store and book; nothing if these cannot stand together.
+fn holding_scene(flaws: &[u8], form: &Flawed) -> Option<Scene> {
+    let has = |number| flaws.contains(&number);
+    if has(21) && (has(23) || has(24)) {
+        return None;
+    }
+    let mut scene = Scene::fresh(if has(7) { form.window } else { 65_536 });
+    if !has(21) {
+        let records = match (has(23), has(24)) {
+            (false, false) => vec![],
+            (true, false) => vec![(0, 4_096)],
+            (false, true) => evenly(64, 2, 1),
+            (true, true) => evenly(64, 128, 64),
+        };
+        scene.book.commands[3] = open_with(&records);
+    }
+    if has(8) {
+        scene.store.resize(form.store, 0);
+    }
+    if has(20) {
+        break_book(&mut scene, form);
+    }
+    Some(scene)
+}
+
+/// The command and the length of such a call.
+fn command_and_length(flaws: &[u8], form: &Flawed) -> (u64, u64) {
+    let command = if flaws.contains(&6) { form.command } else { 3 };
+    let length = if flaws.contains(&4) { form.length } else { 10 };
+    (command, length)
+}
+
 #[test]
 fn begin_gives_the_lowest() {
     let numbers = [6, 8, 20, 22];
@@ -145,31 +178,13 @@ fn fetch_gives_the_lowest() {
     let mut seen = Seen::new();
     for (form, gross) in [(SLIGHT, false), (GROSS, true)] {
         for flaws in choices(&numbers) {
-            let has = |number| flaws.contains(&number);
-            if has(21) && (has(23) || has(24)) {
+            let Some(mut scene) = holding_scene(&flaws, &form) else {
                 continue;
-            }
-            let mut scene = Scene::fresh(if has(7) { form.window } else { 65_536 });
-            if !has(21) {
-                let records = match (has(23), has(24)) {
-                    (false, false) => vec![],
-                    (true, false) => vec![(0, 4_096)],
-                    (false, true) => evenly(64, 2, 1),
-                    (true, true) => evenly(64, 128, 64),
-                };
-                scene.book.commands[3] = open_with(&records);
-            }
-            if has(8) {
-                scene.store.resize(form.store, 0);
-            }
-            if has(20) {
-                break_book(&mut scene, &form);
-            }
-            let length = if has(4) { form.length } else { 10 };
+            };
+            let (command, length) = command_and_length(&flaws, &form);
             let missing = if gross { length as usize } else { 1 };
-            let room = length as usize - if has(10) { missing } else { 0 };
+            let room = length as usize - if flaws.contains(&10) { missing } else { 0 };
             scene.destination.resize(room, 0x77);
-            let command = if has(6) { form.command } else { 3 };
             let address = address_for(&flaws, gross, scene.window.len(), length);
             seen.check(scene.fetch(command, address, length), &flaws);
         }
@@ -196,20 +211,14 @@ fn host_write_gives_the_lowest() {
 
 #[test]
 fn own_write_gives_the_lowest() {
-    let numbers = [4, 6, 7, 9, 20, 21];
+    let numbers = [4, 6, 7, 8, 9, 20, 21, 23, 24];
     let mut seen = Seen::new();
     for (form, gross) in [(SLIGHT, false), (GROSS, true)] {
         for flaws in choices(&numbers) {
-            let has = |number| flaws.contains(&number);
-            let mut scene = Scene::fresh(if has(7) { form.window } else { 65_536 });
-            if !has(21) {
-                scene.begin(3).unwrap();
-            }
-            if has(20) {
-                break_book(&mut scene, &form);
-            }
-            let length = if has(4) { form.length } else { 10 };
-            let command = if has(6) { form.command } else { 3 };
+            let Some(mut scene) = holding_scene(&flaws, &form) else {
+                continue;
+            };
+            let (command, length) = command_and_length(&flaws, &form);
             let address = address_for(&flaws, gross, scene.window.len(), length);
             let data = vec![0x77; length as usize];
             seen.check(scene.own_write(command, address, &data), &flaws);

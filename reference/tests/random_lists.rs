@@ -36,6 +36,10 @@ pub struct Tally {
     pub mixed: u64,
     /// Accepted fetches without a byte.
     pub empty: u64,
+    /// Own writes over some addresses that were held and some that were not.
+    pub mixed_writes: u64,
+    /// Own writes that were refused with 23 or with 24.
+    pub no_room_writes: [u64; 2],
 }
 
 impl Tally {
@@ -47,6 +51,16 @@ impl Tally {
     fn count_refusal<Reply>(&mut self, answer: &Result<Reply, u8>) {
         if let Err(number) = answer {
             *self.refusals.entry(*number).or_default() += 1;
+        }
+    }
+
+    fn count_write(&mut self, answer: &Result<(u64, u64), u8>) {
+        self.count_refusal(answer);
+        match *answer {
+            Ok((bytes, new)) => self.mixed_writes += u64::from(0 < new && new < bytes),
+            Err(23) => self.no_room_writes[0] += 1,
+            Err(24) => self.no_room_writes[1] += 1,
+            Err(_) => {}
         }
     }
 }
@@ -80,11 +94,7 @@ pub fn one_call(
     tally: &mut Tally,
 ) {
     if !scene.window.is_empty() && generator.one_in(2) {
-        for _ in 0..generator.below(40) {
-            let place = generator.below(scene.window.len() as u64) as usize;
-            scene.window[place] ^= 0x5b;
-            model.window[place] ^= 0x5b;
-        }
+        change_window(generator, scene, model);
     }
     let before = scene.book.clone();
     let command = if generator.one_in(100) {
@@ -109,27 +119,42 @@ pub fn one_call(
                 tally.count_refusal(&expected);
                 assert_eq!(scene.host_write(address, &data), expected);
             }
-            2 => {
+            2..=3 => {
+                mostly_open(generator, command, scene, model);
                 let (address, data) = chosen_write(profile, generator);
                 let expected = model.own_write(command, address, &data);
-                tally.count_refusal(&expected);
+                tally.count_write(&expected);
                 assert_eq!(scene.own_write(command, address, &data), expected);
             }
-            3 => {
+            4 => {
                 let index = generator.below(70);
                 let expected = model.show(command, index);
                 tally.count_refusal(&expected);
                 assert_eq!(scene.show(command, index), expected);
             }
             _ => {
-                if command < 8 && !model.is_open(command) && !generator.one_in(8) {
-                    assert_eq!(scene.begin(command), model.begin(command));
-                }
+                mostly_open(generator, command, scene, model);
                 one_fetch(profile, generator, command, scene, model, tally);
             }
         }
     }
     check_state(command, &before, scene, model);
+}
+
+/// Changes some bytes of the window, as the host may between two calls.
+fn change_window(generator: &mut Generator, scene: &mut Scene, model: &mut Model) {
+    for _ in 0..generator.below(40) {
+        let place = generator.below(scene.window.len() as u64) as usize;
+        scene.window[place] ^= 0x5b;
+        model.window[place] ^= 0x5b;
+    }
+}
+
+/// Begins a closed command before it is used, as one does but for now and then.
+fn mostly_open(generator: &mut Generator, command: u64, scene: &mut Scene, model: &mut Model) {
+    if command < 8 && !model.is_open(command) && !generator.one_in(8) {
+        assert_eq!(scene.begin(command), model.begin(command));
+    }
 }
 
 /// Address and data of a write that lies about where the fetches do.
@@ -196,6 +221,7 @@ fn many_small_spans_up_to_the_last_record() {
         span: spans::small,
     });
     assert!(tally.refused(24) > 2_500, "{tally:?}");
+    assert!(tally.no_room_writes[1] > 250, "{tally:?}");
     assert!(tally.joins > 500, "{tally:?}");
 }
 
@@ -211,6 +237,7 @@ fn large_spans_up_to_the_last_held_byte() {
         span: spans::large,
     });
     assert!(tally.refused(23) > 2_500, "{tally:?}");
+    assert!(tally.no_room_writes[0] > 250, "{tally:?}");
     assert!(tally.refused(4) > 100, "{tally:?}");
     assert!(tally.mixed > 500, "{tally:?}");
 }
@@ -227,6 +254,7 @@ fn overlapping_spans_in_a_narrow_place() {
         span: spans::overlapping,
     });
     assert!(tally.joins > 1_000 && tally.mixed > 2_500, "{tally:?}");
+    assert!(tally.mixed_writes > 500, "{tally:?}");
 }
 
 #[test]

@@ -73,10 +73,20 @@ impl Scene {
         self.guarded(|scene| cache::host_write(&mut scene.window, address, data))
     }
 
-    pub fn own_write(&mut self, command: u64, address: u64, data: &[u8]) -> Result<u64, u8> {
+    /// Answers how many bytes were written and how many of their addresses were
+    /// not held.
+    pub fn own_write(&mut self, command: u64, address: u64, data: &[u8]) -> Result<(u64, u64), u8> {
         self.guarded(|scene| {
-            cache::own_write(&scene.book, &mut scene.window, command, address, data)
+            cache::own_write(
+                &mut scene.book,
+                &mut scene.store,
+                &mut scene.window,
+                command,
+                address,
+                data,
+            )
         })
+        .map(|written| (written.bytes, written.fresh))
     }
 
     /// Answers start and length of the record.

@@ -1,6 +1,6 @@
-//! The marked situations A to K of 01 (the agreed scope), B as F-1 of 02 (the
-//! agreed changes) has it, each for all eight commands. docs/RULES.md has their
-//! rules.
+//! The marked situations A to K of 01 (the agreed scope), B as F-1 and J as F-3
+//! of 02 (the agreed changes) have them, each for all eight commands.
+//! docs/RULES.md has their rules.
 
 use reference::frames::read_frame;
 
@@ -143,23 +143,42 @@ fn situation_i_three_frames_that_cannot_be_read() {
 }
 
 #[test]
-fn situation_j_a_commands_own_write_does_not_reach_its_held_bytes() {
+fn situation_j_a_command_sees_its_own_write() {
     for command in 0..8 {
         let mut scene = Scene::with_open(command);
         let old = scene.window_at(16, 2);
         let new = [old[0] ^ 0xff, old[1] ^ 0xff];
         assert_eq!(scene.fetch(command, 16, 2), Ok((2, 0)));
         assert_eq!(scene.destination[..2], old);
-
-        let (book, store) = (scene.book.clone(), scene.store.clone());
-        assert_eq!(scene.own_write(command, 16, &new), Ok(2));
+        assert_eq!(scene.own_write(command, 16, &new), Ok((2, 0)));
         assert_eq!(scene.window_at(16, 2), new);
-        assert!(scene.book == book && scene.store == store);
 
-        scene.destination.fill(0);
+        change_window(&mut scene);
         assert_eq!(scene.fetch(command, 16, 2), Ok((0, 2)));
-        assert_eq!(scene.destination[..2], old);
+        assert_eq!(scene.destination[..2], new);
         assert_eq!(scene.records(command), [(16, 2)]);
+        assert_eq!(scene.end(command), Ok((1, 2)));
+    }
+}
+
+#[test]
+fn situation_j_reaches_another_command_through_the_window_alone() {
+    for command in 0..8 {
+        let (before, behind) = ((command + 1) % 8, (command + 2) % 8);
+        let mut scene = Scene::with_open(command);
+        scene.begin(before).unwrap();
+        scene.begin(behind).unwrap();
+        let old = scene.window_at(16, 2);
+        let new = [old[0] ^ 0xff, old[1] ^ 0xff];
+        assert_eq!(scene.fetch(before, 16, 2), Ok((2, 0)));
+        assert_eq!(scene.own_write(command, 16, &new), Ok((2, 2)));
+        assert_eq!(scene.fetch(before, 16, 2), Ok((0, 2)));
+        assert_eq!(scene.destination[..2], old);
+        assert_eq!(scene.host_write(17, &[old[1]]), Ok(1));
+        assert_eq!(scene.fetch(behind, 16, 2), Ok((2, 0)));
+        assert_eq!(scene.destination[..2], [new[0], old[1]]);
+        assert_eq!(scene.fetch(command, 16, 2), Ok((0, 2)));
+        assert_eq!(scene.destination[..2], new);
     }
 }
 

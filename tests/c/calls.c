@@ -280,42 +280,184 @@ void test_host_write_refused(void)
     host_refused(&d, DOORCLOVER_OUTSIDE_WINDOW, SIZE_MAX - 1);
 }
 
+/* The host puts back what a fresh desk has there. */
+static void put_back(const desk *d, size_t address, size_t length)
+{
+    for (size_t i = 0; i < length; i++)
+        d->window->bytes[address + i] = host_byte(address + i);
+}
+
+/* What was written is given from then on, over what was held before too, whatever the host puts there. */
 void test_own_write(void)
 {
     desk d = fresh_desk();
-    desk two = with_bytes(d, lend(2, 0x99));
-    desk all = with_bytes(d, lend(DOORCLOVER_TRANSFER, 0x11));
+    desk four = with_bytes(d, lend(4, 0x99)), two = with_bytes(d, lend(2, 0x77));
     begin(&d, 6);
-    fetch(&d, 6, 16, 2, 2, 0);
-    own_write(&two, 6, 16);
-    fetch(&d, 6, 16, 2, 0, 2);
-    CHECK(delivered(&d, 16, 2)); /* the old bytes */
-    own_write(&two, 6, 16382);
-    own_write(&all, 6, 0);
-    own_write(&d, 6, 16384);
-    desk below = with_store(two, lend(DOORCLOVER_STORE - 1, 1));
-    own_write(&below, 6, 3); /* a store of any length */
+    fetch(&d, 6, 16, 4, 4, 0);
+    own_write(&four, 6, 18, 2); /* 18 and 19 are held, 20 and 21 are not */
+    put_back(&d, 18, 4);
+    fetch(&d, 6, 14, 4, 2, 2);
+    CHECK(delivered(&d, 14, 4));
+    fetch(&d, 6, 18, 6, 2, 4);
+    CHECK(memcmp(d.destination->bytes, "\x99\x99\x99\x99", 4) == 0);
+    CHECK(d.destination->bytes[4] == host_byte(22) && d.destination->bytes[5] == host_byte(23));
+    own_write(&two, 6, 19, 0); /* over what was fetched or written */
+    put_back(&d, 18, 4);
+    fetch(&d, 6, 18, 4, 0, 4);
+    CHECK(memcmp(d.destination->bytes, "\x99\x77\x77\x99", 4) == 0);
+    end(&d, 6, 1, 10); /* the sum of fresh: 4, 2, 2, 2, 0 and 0 */
+    begin(&d, 6); /* the next command knows nothing of it */
+    fetch(&d, 6, 14, 10, 10, 0);
+    CHECK(delivered(&d, 14, 10));
+}
+
+/* Another command is given what it holds, or else what is in the window. */
+void test_own_write_alone(void)
+{
+    desk d = fresh_desk();
+    desk two = with_bytes(d, lend(2, 0x99));
+    for (size_t c = 1; c <= 4; c++)
+        begin(&d, c);
+    fetch(&d, 1, 16, 2, 2, 0);
+    own_write(&two, 2, 16, 2);
+    fetch(&d, 1, 16, 2, 0, 2);
+    CHECK(delivered(&d, 16, 2));
+    fetch(&d, 3, 16, 2, 2, 0);
+    CHECK(memcmp(d.destination->bytes, "\x99\x99", 2) == 0);
+    put_back(&d, 16, 2);
+    fetch(&d, 4, 16, 2, 2, 0);
+    CHECK(delivered(&d, 16, 2));
+    fetch(&d, 2, 16, 2, 0, 2);
+    CHECK(memcmp(d.destination->bytes, "\x99\x99", 2) == 0);
+    host_write(&two, 20); /* the host's writes are held by nobody */
+    show(&d, 2, 0, 16, 2);
+    for (size_t c = 1; c <= 4; c++)
+        end(&d, c, 1, 2);
+}
+
+/* The records become those that a fetch of the span makes. */
+void test_own_write_joins(void)
+{
+    desk d = fresh_desk();
+    desk one = with_bytes(d, lend(1, 0x11)), four = with_bytes(d, lend(4, 0x22));
+    desk many = with_bytes(d, lend(100, 0x33));
+    begin(&d, 0);
+    own_write(&four, 0, 16, 4);
+    own_write(&four, 0, 26, 4);
+    own_write(&one, 0, 20, 1); /* where a record ends */
+    show(&d, 0, 0, 16, 5);
+    own_write(&one, 0, 25, 1); /* where one starts */
+    show(&d, 0, 0, 16, 5);
+    show(&d, 0, 1, 25, 5);
+    own_write(&four, 0, 21, 4); /* between two */
+    show(&d, 0, 0, 16, 14);
+    show_refused(&d, DOORCLOVER_NO_SUCH_RECORD, 0, 1);
+    own_write(&one, 0, 31, 1); /* one address between */
+    show(&d, 0, 1, 31, 1);
+    fetch(&d, 0, 30, 1, 1, 0);
+    CHECK(delivered(&d, 30, 1));
+    show(&d, 0, 0, 16, 16);
+    fetch(&d, 0, 50, 4, 4, 0);
+    own_write(&many, 0, 0, 80); /* over two records */
+    show(&d, 0, 0, 0, 100);
+    own_write(&many, 0, 16384 - 100, 100);
+    end(&d, 0, 2, 200);
+}
+
+/* A length of 0 writes nothing, holds nothing and joins nothing, wherever it stands. */
+void test_own_write_of_none(void)
+{
+    desk d = fresh_desk();
+    begin(&d, 0);
+    own_write(&d, 0, 0, 0);
+    own_write(&d, 0, 16384, 0);
+    show_refused(&d, DOORCLOVER_NO_SUCH_RECORD, 0, 0);
+    fetch(&d, 0, 16, 4, 4, 0);
+    fetch(&d, 0, 22, 4, 4, 0);
+    for (size_t address = 14; address < 28; address++)
+        own_write(&d, 0, address, 0);
+    end(&d, 0, 2, 8);
+}
+
+/* Every fault at once, and then one after the other is mended: the lowest number is given. */
+static void own_ladder(desk d)
+{
+    desk e = with_bytes(d, lend(DOORCLOVER_TRANSFER + 1, 0x11));
+    size_t command = 8, address = SIZE_MAX;
+    e.store = lend(DOORCLOVER_STORE - 1, 1);
+    e.window = lend(DOORCLOVER_WINDOW + 1, 2);
+    break_words(&e);
+    own_refused(&e, DOORCLOVER_LENGTH_TOO_LONG, command, address);
+    e.bytes = lend(9, 0x99);
+    own_refused(&e, DOORCLOVER_COMMAND_TOO_HIGH, command, address);
+    command = 5;
+    own_refused(&e, DOORCLOVER_WINDOW_TOO_LONG, command, address);
+    e.window = d.window;
+    own_refused(&e, DOORCLOVER_STORE_WRONG_SIZE, command, address);
+    e.store = d.store;
+    own_refused(&e, DOORCLOVER_OUTSIDE_WINDOW, command, address);
+    address = 16384 - 9;
+    own_refused(&e, DOORCLOVER_STATE_BROKEN, command, address);
+    mend_words(&e);
+    own_refused(&e, DOORCLOVER_COMMAND_NOT_OPEN, command, address);
+    begin(&e, command);
+    own_write(&e, command, address, 9);
 }
 
 void test_own_write_refused(void)
 {
-    desk d = with_bytes(fresh_desk(), lend(2, 0x99));
+    desk d = fresh_desk();
+    desk two = with_bytes(d, lend(2, 0x99));
     desk longer = with_bytes(d, lend(DOORCLOVER_TRANSFER + 1, 0x11));
-    desk wider = with_window(d, lend(DOORCLOVER_WINDOW + 1, 0));
-    desk both = with_window(longer, wider.window);
-    own_refused(&d, DOORCLOVER_COMMAND_NOT_OPEN, 1, 0);
-    break_words(&d);
-    own_refused(&d, DOORCLOVER_STATE_BROKEN, 1, 0);
-    own_refused(&d, DOORCLOVER_OUTSIDE_WINDOW, 1, 16383);
-    own_refused(&d, DOORCLOVER_OUTSIDE_WINDOW, 1, SIZE_MAX);
-    own_refused(&wider, DOORCLOVER_WINDOW_TOO_LONG, 1, SIZE_MAX);
-    for (size_t i = 0; i < TOO_HIGH; i++)
-        own_refused(&wider, DOORCLOVER_COMMAND_TOO_HIGH, too_high[i], SIZE_MAX);
-    own_refused(&both, DOORCLOVER_LENGTH_TOO_LONG, 8, SIZE_MAX);
-    mend_words(&d);
+    desk wider = with_window(two, lend(DOORCLOVER_WINDOW + 1, 0));
+    lent *stores[] = {lend(DOORCLOVER_STORE - 1, 1), lend(DOORCLOVER_STORE + 1, 1), &nothing};
+    own_ladder(d);
     begin(&d, 1);
-    own_refused(&d, DOORCLOVER_COMMAND_NOT_OPEN, 0, 0);
+    fetch(&d, 1, 16, 2, 2, 0);
+    for (size_t i = 0; i < 3; i++) { /* where all is held and where nothing is written, too */
+        desk held = with_store(two, stores[i]), none = with_store(d, stores[i]);
+        own_refused(&held, DOORCLOVER_STORE_WRONG_SIZE, 1, 16);
+        own_refused(&none, DOORCLOVER_STORE_WRONG_SIZE, 1, 0);
+    }
     own_refused(&longer, DOORCLOVER_LENGTH_TOO_LONG, 1, 0);
+    own_refused(&wider, DOORCLOVER_WINDOW_TOO_LONG, 1, 0);
+    own_refused(&two, DOORCLOVER_OUTSIDE_WINDOW, 1, 16383);
+    own_refused(&two, DOORCLOVER_OUTSIDE_WINDOW, 1, SIZE_MAX);
+    own_refused(&two, DOORCLOVER_OUTSIDE_WINDOW, 1, SIZE_MAX - 1);
+    own_refused(&d, DOORCLOVER_OUTSIDE_WINDOW, 1, 16385);
+    own_refused(&two, DOORCLOVER_COMMAND_NOT_OPEN, 0, 0);
+    own_refused(&d, DOORCLOVER_COMMAND_NOT_OPEN, 0, 0);
+    for (size_t i = 0; i < TOO_HIGH; i++)
+        own_refused(&two, DOORCLOVER_COMMAND_TOO_HIGH, too_high[i], 0);
+}
+
+/* Where there is no room, state, store and window stay as they were. */
+void test_own_write_full(void)
+{
+    desk d = fresh_desk();
+    desk one = with_bytes(d, lend(1, 0x99)), all = with_bytes(d, lend(DOORCLOVER_TRANSFER, 0x77));
+    begin(&d, 0);
+    own_write(&all, 0, 0, 4096);
+    own_refused(&one, DOORCLOVER_TOO_MANY_BYTES, 0, 4096);
+    own_refused(&all, DOORCLOVER_TOO_MANY_BYTES, 0, 1);
+    fetch_refused(&d, DOORCLOVER_TOO_MANY_BYTES, 0, 4096, 1);
+    own_write(&one, 0, 4095, 0); /* what is held has its room */
+    own_write(&all, 0, 0, 0);
+    begin(&d, 7);
+    for (size_t i = 0; i < DOORCLOVER_RECORDS; i++)
+        own_write(&one, 7, 2 * i, 1);
+    own_refused(&one, DOORCLOVER_TOO_MANY_RECORDS, 7, 128);
+    own_refused(&all, DOORCLOVER_TOO_MANY_BYTES, 7, 128); /* both: the lower number */
+    fetch_refused(&d, DOORCLOVER_TOO_MANY_RECORDS, 7, 128, 1);
+    own_write(&d, 7, 200, 0);
+    own_write(&one, 7, 127, 1); /* it touches the last one */
+    own_refused(&one, DOORCLOVER_TOO_MANY_RECORDS, 7, 200);
+    own_write(&one, 7, 1, 1); /* it touches two */
+    own_write(&one, 7, 200, 1);
+    own_refused(&one, DOORCLOVER_TOO_MANY_RECORDS, 7, 202);
+    own_write(&one, 7, 200, 0);
+    end(&d, 7, 64, 67);
+    end(&d, 0, 1, 4096);
 }
 
 void test_show(void)
@@ -358,7 +500,9 @@ void test_nulls(void)
     host_write(&neither, 0);
     host_refused(&neither, DOORCLOVER_OUTSIDE_WINDOW, 1);
     host_refused(&one, DOORCLOVER_OUTSIDE_WINDOW, 0);
-    own_write(&no_bytes, 0, 5);
-    own_write(&no_store, 0, 0);
+    own_write(&no_bytes, 0, 5, 0);
+    own_write(&neither, 0, 0, 0);
+    own_refused(&no_store, DOORCLOVER_STORE_WRONG_SIZE, 0, 0);
+    own_refused(&neither, DOORCLOVER_OUTSIDE_WINDOW, 0, 1);
     own_refused(&one, DOORCLOVER_OUTSIDE_WINDOW, 0, 0);
 }

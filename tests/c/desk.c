@@ -15,10 +15,10 @@ void check(int good, const char *what, const char *file, int line)
 }
 
 /* The refusals that were seen, of each call. */
-enum { CALLS = 11, NUMBERS = 32 };
-static const char *const names[CALLS] = {"begin",     "fetch",     "end",  "host write",
-                                         "own write", "show",      "read", "write",
-                                         "map begin", "map fetch", "map end"};
+enum { CALLS = 12, NUMBERS = 32 };
+static const char *const names[CALLS] = {"begin",     "fetch",     "end",     "host write",
+                                         "own write", "show",      "read",    "write",
+                                         "map begin", "map fetch", "map end", "map own write"};
 static int seen[CALLS][NUMBERS];
 
 static int *seen_of(const char *call)
@@ -191,14 +191,14 @@ static doorclover_written call_host(const desk *d, size_t address)
 void host_refused(const desk *d, doorclover_status want, size_t address)
 {
     doorclover_written r = call_host(d, address);
-    turned_away("host write", want, r.status, r.bytes);
+    turned_away("host write", want, r.status, r.bytes | r.fresh);
 }
 
-/* The bytes are in the window, and nothing else has changed. */
-static void written(const desk *d, doorclover_written r, size_t address)
+/* The reply is the one wanted, the bytes are in the window, and nothing else has changed. */
+static void written(const desk *d, doorclover_written r, size_t address, size_t fresh)
 {
     size_t size = d->bytes->size;
-    CHECK(r.status == DOORCLOVER_OK && r.bytes == size);
+    CHECK(r.status == DOORCLOVER_OK && r.bytes == size && r.fresh == fresh);
     CHECK(size == 0 || memcmp(d->window->bytes + address, d->bytes->bytes, size) == 0);
     allow(d->window, address, size);
     CHECK(all_kept());
@@ -206,7 +206,20 @@ static void written(const desk *d, doorclover_written r, size_t address)
 
 void host_write(const desk *d, size_t address)
 {
-    written(d, call_host(d, address), address);
+    written(d, call_host(d, address), address, 0);
+}
+
+/* The value of each address that a command holds, by its records and its part of the store, or else -1. */
+typedef int16_t holding[DOORCLOVER_WINDOW];
+
+static void look(const desk *d, size_t command, holding held)
+{
+    const uint16_t *words = words_of(d, command);
+    const uint8_t *part = d->store->bytes + DOORCLOVER_HELD * command;
+    memset(held, 0xff, sizeof(holding));
+    for (size_t i = 0; i + 1 < words[0]; i++)
+        for (size_t k = 0; k < words[2 + 2 * i]; k++)
+            held[words[1 + 2 * i] + k] = *part++;
 }
 
 static doorclover_written call_own(const desk *d, size_t command, size_t address)
@@ -220,12 +233,22 @@ static doorclover_written call_own(const desk *d, size_t command, size_t address
 void own_refused(const desk *d, doorclover_status want, size_t command, size_t address)
 {
     doorclover_written r = call_own(d, command, address);
-    turned_away("own write", want, r.status, r.bytes);
+    turned_away("own write", want, r.status, r.bytes | r.fresh);
 }
 
-void own_write(const desk *d, size_t command, size_t address)
+/* The command holds the bytes, and all else that it held before. */
+void own_write(const desk *d, size_t command, size_t address, size_t fresh)
 {
-    written(d, call_own(d, command, address), address);
+    static holding want, have;
+    look(d, command, want);
+    for (size_t i = 0; i < d->bytes->size; i++)
+        want[address + i] = d->bytes->bytes[i];
+    doorclover_written r = call_own(d, command, address);
+    look(d, command, have);
+    CHECK(memcmp(have, want, sizeof have) == 0);
+    if (d->bytes->size > 0)
+        allow_command(d, command);
+    written(d, r, address, fresh);
 }
 
 void show_refused(const desk *d, doorclover_status want, size_t command, size_t index)

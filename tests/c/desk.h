@@ -57,7 +57,7 @@ void end(const desk *d, size_t command, size_t records, size_t bytes);
 void fetch(const desk *d, size_t command, size_t address, size_t length, size_t fresh,
            size_t replayed);
 void host_write(const desk *d, size_t address);
-void own_write(const desk *d, size_t command, size_t address);
+void own_write(const desk *d, size_t command, size_t address, size_t fresh);
 void show(const desk *d, size_t command, size_t index, size_t start, size_t length);
 
 /* Were just these refusals seen, of a call by its name? The numbers end with 0. */

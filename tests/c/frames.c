@@ -184,6 +184,35 @@ void test_journal(void)
         CHECK(d.store->bytes[2 * DOORCLOVER_HELD + i] == 0);
 }
 
+/*
+ * The line of an own write has how many bytes it wrote and how many of their addresses were not held.
+ * The fetch behind it gives what was written.
+ */
+void test_journal_own_write(void)
+{
+    static const uint8_t frames[] = {
+        0x08, 0x00, 0x00, 0x00, 0x00,                         /* begin 2 */
+        0x60, 0x00, 0x40, 0x00, 0x80, 0x61, 0x62, 0x63, 0x64, /* the host writes abcd at 16 */
+        0x28, 0x00, 0x40, 0x00, 0x40,                         /* fetch 16+2 */
+        0x88, 0x00, 0x44, 0x00, 0x40, 0x79, 0x7a,             /* own write of yz at 17 */
+        0x60, 0x00, 0x44, 0x00, 0x40, 0x62, 0x63,             /* the host writes bc at 17 */
+        0x28, 0x00, 0x40, 0x00, 0x80,                         /* fetch 16+4 */
+        0x88, 0x00, 0x50, 0x00, 0x00,                         /* own write of nothing at 20 */
+        0x48, 0x00, 0x00, 0x00, 0x00,                         /* end 2 */
+        0x88, 0x00, 0x44, 0x00, 0x40, 0x79, 0x7a              /* own write of yz at 17 */
+    };
+    desk d = with(frames, sizeof frames);
+    logs(&d,
+         "1 B ok\n2 H ok 4\n3 F ok 2 0 6162\n4 W ok 2 1\n5 H ok 2\n6 F ok 1 3 61797a64\n"
+         "7 W ok 0 0\n8 E ok 1 4\n9 W no 21\n",
+         8, 1, 0);
+    CHECK(memcmp(d.window->bytes + 16, "abcd", 4) == 0);
+    allow(d.window, 16, 4);
+    allow(d.destination, 0, 4);
+    allow(d.store, 2 * DOORCLOVER_HELD, DOORCLOVER_HELD);
+    CHECK(all_kept());
+}
+
 /* A log is cut where the output ends, and the run is the same. */
 void test_journal_cut(void)
 {

@@ -107,7 +107,7 @@ static void host_write(void)
 
 static void own_write(void)
 {
-    told = doorclover_own_write(&state, store, sizeof store, window, sizeof window, 3, 0, list,
+    told = doorclover_own_write(&state, store, sizeof store, window, sizeof window, 3, 1, list,
                                 sizeof list).status;
 }
 
@@ -129,10 +129,15 @@ static void frame_read(void)
 
 static void journal(void)
 {
-    static const uint8_t frames[] = {0x0c, 0,    0,    0, 0,    0x2c, 0,    4, 0,    0x20,
-                                     0x2c, 0,    0x0c, 0, 0x20, 0x2c, 0,    2, 0,    0,
-                                     0x8c, 0,    0,    0, 0x20, 1,    0x60, 0, 0,    0,
-                                     0x20, 1,    0x4c, 0, 0,    0,    0};
+    static const uint8_t frames[] = {
+        0x0c, 0, 0,    0, 0,       /* begin 3 */
+        0x2c, 0, 0x04, 0, 0x20,    /* fetch 1+1 */
+        0x2c, 0, 0x0c, 0, 0x20,    /* fetch 3+1 */
+        0x8c, 0, 0x08, 0, 0x20, 1, /* own write 2+1, which joins them */
+        0x2c, 0, 0x02, 0, 0,       /* fetch 0+4096 */
+        0x60, 0, 0,    0, 0x20, 1, /* host write 0+1 */
+        0x4c, 0, 0,    0, 0        /* end 3 */
+    };
     doorclover_replayed r = doorclover_journal_replay(frames, sizeof frames, store, sizeof store,
                                                       window, sizeof window, list, sizeof list,
                                                       output, sizeof output);
@@ -158,6 +163,11 @@ static void map_fetch(void)
 static void map_end(void)
 {
     told = doorclover_map_end(&map.open, map.words, map.values).status;
+}
+
+static void map_own_write(void)
+{
+    told = doorclover_map_own_write(&map.open, map.words, map.values, window, 4096, 1, list, 4095).status;
 }
 
 /* A stack of its own. */
@@ -196,7 +206,7 @@ static int within(const char *name, void (*function)(void), size_t most)
     return told == DOORCLOVER_OK && bytes <= most;
 }
 
-/* Command 3 has records of one byte, which the fetch joins. */
+/* Command 3 has records of one byte, which the fetch and the own write join. */
 static int hold_some(void)
 {
     for (size_t i = 0; i < DOORCLOVER_RECORDS - 1; i++)
@@ -224,8 +234,10 @@ static int stacks(void)
     good &= within("show", show, DOORCLOVER_STACK);
     good &= within("fetch", fetch, DOORCLOVER_STACK);
     good &= within("host write", host_write, DOORCLOVER_STACK);
-    good &= within("own write", own_write, DOORCLOVER_STACK);
     good &= within("end", end, DOORCLOVER_STACK);
+    begin();
+    good &= hold_some();
+    good &= within("own write", own_write, DOORCLOVER_STACK);
     good &= within("frame write", frame_write, DOORCLOVER_STACK);
     good &= within("frame read", frame_read, DOORCLOVER_STACK);
     good &= within("journal replay", journal, DOORCLOVER_JOURNAL_STACK);
@@ -234,6 +246,9 @@ static int stacks(void)
     good &= map_some();
     good &= within("map fetch", map_fetch, DOORCLOVER_STACK);
     good &= within("map end", map_end, DOORCLOVER_STACK);
+    map_begin();
+    good &= map_some();
+    good &= within("map own write", map_own_write, DOORCLOVER_STACK);
     return good;
 }
 

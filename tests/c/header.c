@@ -29,6 +29,8 @@ extern doorclover_begun (*const map_begin_is)(uint64_t *, uint64_t *, writes);
 extern doorclover_fetched (*const map_fetch_is)(const uint64_t *, uint64_t *, writes, reads, size_t,
                                                 writes, size_t, size_t, size_t);
 extern doorclover_ended (*const map_end_is)(uint64_t *, uint64_t *, writes);
+extern doorclover_written (*const map_own_write_is)(const uint64_t *, uint64_t *, writes, writes, size_t,
+                                                    size_t, reads, size_t);
 
 uint32_t (*const release_is)(void) = doorclover_release;
 void (*const fresh_is)(state *) = doorclover_fresh;
@@ -51,6 +53,8 @@ doorclover_begun (*const map_begin_is)(uint64_t *, uint64_t *, writes) = doorclo
 doorclover_fetched (*const map_fetch_is)(const uint64_t *, uint64_t *, writes, reads, size_t, writes,
                                          size_t, size_t, size_t) = doorclover_map_fetch;
 doorclover_ended (*const map_end_is)(uint64_t *, uint64_t *, writes) = doorclover_map_end;
+doorclover_written (*const map_own_write_is)(const uint64_t *, uint64_t *, writes, writes, size_t, size_t,
+                                             reads, size_t) = doorclover_map_own_write;
 
 /* Every part of a map has just this type, as the calls take it. */
 extern void part(doorclover_map *m, uint64_t **open, uint64_t (**words)[64], uint8_t (**values)[4096]);
@@ -73,8 +77,8 @@ typedef struct {
     doorclover_replayed replayed;
 } replies;
 
-extern void point(replies *r, uint32_t *narrow[8], uint16_t *half[2], size_t *wide[14]);
-void point(replies *r, uint32_t *narrow[8], uint16_t *half[2], size_t *wide[14])
+extern void point(replies *r, uint32_t *narrow[8], uint16_t *half[2], size_t *wide[15]);
+void point(replies *r, uint32_t *narrow[8], uint16_t *half[2], size_t *wide[15])
 {
     narrow[0] = &r->begun.status;
     narrow[1] = &r->fetched.status;
@@ -91,15 +95,16 @@ void point(replies *r, uint32_t *narrow[8], uint16_t *half[2], size_t *wide[14])
     wide[2] = &r->ended.records;
     wide[3] = &r->ended.bytes;
     wide[4] = &r->written.bytes;
-    wide[5] = &r->step.kind;
-    wide[6] = &r->step.command;
-    wide[7] = &r->step.address;
-    wide[8] = &r->step.length;
-    wide[9] = &r->step.taken;
-    wide[10] = &r->framed.length;
-    wide[11] = &r->replayed.written;
-    wide[12] = &r->replayed.carried;
-    wide[13] = &r->replayed.refused;
+    wide[5] = &r->written.fresh;
+    wide[6] = &r->step.kind;
+    wide[7] = &r->step.command;
+    wide[8] = &r->step.address;
+    wide[9] = &r->step.length;
+    wide[10] = &r->step.taken;
+    wide[11] = &r->framed.length;
+    wide[12] = &r->replayed.written;
+    wide[13] = &r->replayed.carried;
+    wide[14] = &r->replayed.refused;
 }
 
 /* A status can be compared and switched on without a warning. */

@@ -10,13 +10,14 @@ static void test_every_refusal_seen(void)
     static const doorclover_status fetches[] = {4, 6, 7, 8, 9, 10, 20, 21, 23, 24, 0};
     static const doorclover_status ends[] = {6, 8, 20, 21, 0};
     static const doorclover_status hosts[] = {4, 7, 9, 0};
-    static const doorclover_status owns[] = {4, 6, 7, 9, 20, 21, 0};
+    static const doorclover_status owns[] = {4, 6, 7, 8, 9, 20, 21, 23, 24, 0};
     static const doorclover_status shows[] = {6, 20, 21, 25, 0};
     static const doorclover_status reads[] = {1, 2, 3, 4, 5, 0};
     static const doorclover_status writes[] = {2, 3, 4, 5, 6, 10, 11, 0};
     static const doorclover_status map_begins[] = {20, 22, 0};
     static const doorclover_status map_fetches[] = {4, 9, 10, 20, 21, 24, 30, 0};
     static const doorclover_status map_ends[] = {20, 21, 0};
+    static const doorclover_status map_owns[] = {4, 9, 20, 21, 24, 30, 0};
     CHECK(seen_just("begin", begins));
     CHECK(seen_just("fetch", fetches));
     CHECK(seen_just("end", ends));
@@ -28,6 +29,7 @@ static void test_every_refusal_seen(void)
     CHECK(seen_just("map begin", map_begins));
     CHECK(seen_just("map fetch", map_fetches));
     CHECK(seen_just("map end", map_ends));
+    CHECK(seen_just("map own write", map_owns));
 }
 
 typedef struct {
@@ -49,7 +51,11 @@ static const test tests[] = {
     {"host write", test_host_write},
     {"host write refused", test_host_write_refused},
     {"own write", test_own_write},
+    {"own write seen by its command alone", test_own_write_alone},
+    {"own write joins records", test_own_write_joins},
+    {"own write of no bytes", test_own_write_of_none},
     {"own write refused", test_own_write_refused},
+    {"own write of too many bytes and records", test_own_write_full},
     {"show", test_show},
     {"null pointers with length 0", test_nulls},
     {"broken words", test_broken_words},
@@ -61,6 +67,7 @@ static const test tests[] = {
     {"frame write", test_frame_write},
     {"frame write refused", test_frame_write_refused},
     {"journal", test_journal},
+    {"journal with own writes", test_journal_own_write},
     {"journal with a log that is cut", test_journal_cut},
     {"journal with refused and unreadable frames", test_journal_refused},
     {"journal with null pointers", test_journal_nulls},
@@ -74,6 +81,12 @@ static const test tests[] = {
     {"map: fetch refused", test_map_fetch_refused},
     {"map: fetch of too many runs", test_map_fetch_full},
     {"map: end", test_map_end},
+    {"map: own write", test_map_own_write},
+    {"map: own write over the edges of words", test_map_own_write_words},
+    {"map: own write of held and other bytes by turns", test_map_own_write_mixed},
+    {"map: own write joins runs", test_map_own_write_joins},
+    {"map: own write refused", test_map_own_write_refused},
+    {"map: own write of too many runs", test_map_own_write_full},
     {"map: null pointers with length 0", test_map_nulls},
     {"map: broken maps", test_broken_maps},
     {"map: maps at their limits", test_maps_at_their_limits},

@@ -5,9 +5,10 @@
 #include <stdint.h>
 #include <string.h>
 
-/* The desk with another window or destination. */
+/* The desk with another window, destination or bytes. */
 static map_desk with_window(map_desk m, lent *l) { m.window = l; return m; }
 static map_desk with_destination(map_desk m, lent *l) { m.destination = l; return m; }
+static map_desk with_bytes(map_desk m, lent *l) { m.bytes = l; return m; }
 
 /* Were these the bytes of the host at an address, before it changed them? */
 static int delivered(const map_desk *m, size_t address, size_t length)
@@ -49,18 +50,19 @@ void test_map_fresh(void)
     CHECK(all_kept());
 }
 
-/* Whatever stands for open but 0 is open, and a fetch leaves it as it is. */
+/* Whatever stands for open but 0 is open, and a fetch and an own write leave it as it is. */
 void test_map_open(void)
 {
     static const uint64_t opens[] = {1, 2, 256, 65536, (uint64_t)1 << 32, (uint64_t)1 << 63,
                                      UINT64_MAX};
-    map_desk m = fresh_map_desk();
+    map_desk m = fresh_map_desk(), two = with_bytes(m, lend(2, 0x99));
     for (size_t i = 0; i < sizeof opens / sizeof opens[0]; i++) {
         *open_of(&m) = opens[i];
         map_begin_refused(&m, DOORCLOVER_COMMAND_ALREADY_OPEN);
         map_fetch(&m, 9, 3, 3, 0);
+        map_own_write(&two, 11, 1);
         map_begin_refused(&m, DOORCLOVER_COMMAND_ALREADY_OPEN);
-        map_end(&m, 1, 3);
+        map_end(&m, 1, 4);
     }
 }
 
@@ -105,14 +107,17 @@ void test_map_fetch(void)
     map_end(&m, 2, 9);
 }
 
-/* Spans over the edges of words, fresh and then replayed. */
+/* Spans over the edges of words. */
+static const size_t spans[][2] = {{62, 4},  {63, 1},    {64, 1},    {63, 2},   {0, 64},
+                                  {0, 65},  {1, 63},    {64, 64},   {63, 66},  {127, 2},
+                                  {5, 200}, {4032, 64}, {4031, 65}, {0, 4096}, {1, 4094}};
+enum { SPANS = sizeof spans / sizeof spans[0] };
+
+/* They are fresh and then replayed. */
 void test_map_fetch_words(void)
 {
-    static const size_t spans[][2] = {{62, 4},  {63, 1},   {64, 1},    {63, 2},    {0, 64},
-                                      {0, 65},  {1, 63},   {64, 64},   {63, 66},   {127, 2},
-                                      {5, 200}, {4032, 64}, {4031, 65}, {0, 4096}, {1, 4094}};
     map_desk m = fresh_map_desk();
-    for (size_t i = 0; i < sizeof spans / sizeof spans[0]; i++) {
+    for (size_t i = 0; i < SPANS; i++) {
         size_t address = spans[i][0], length = spans[i][1];
         map_begin(&m);
         map_fetch(&m, address, length, length, 0);
@@ -266,6 +271,169 @@ void test_map_end(void)
     map_end(&m, 1, 9);
 }
 
+/* What was written is given from then on, over what was held before too, whatever the host puts there. */
+void test_map_own_write(void)
+{
+    map_desk m = fresh_map_desk();
+    map_desk four = with_bytes(m, lend(4, 0x99)), two = with_bytes(m, lend(2, 0x77));
+    map_desk zeros = with_bytes(m, lend(3, 0));
+    map_begin(&m);
+    map_fetch(&m, 62, 4, 4, 0);
+    map_own_write(&four, 64, 2); /* 64 and 65 are held, 66 and 67 are not */
+    change_window(&m);
+    map_fetch(&m, 64, 6, 2, 4);
+    CHECK(memcmp(m.destination->bytes, "\x99\x99\x99\x99", 4) == 0);
+    map_own_write(&two, 65, 0); /* over what was fetched or written */
+    change_window(&m);
+    map_fetch(&m, 64, 4, 0, 4);
+    CHECK(memcmp(m.destination->bytes, "\x99\x77\x77\x99", 4) == 0);
+    map_own_write(&zeros, 200, 3); /* a held byte may be zero */
+    change_window(&m);
+    map_fetch(&m, 200, 3, 0, 3);
+    CHECK(memcmp(m.destination->bytes, "\0\0\0", 3) == 0);
+    map_end(&m, 2, 11); /* the sum of fresh: 4, 2, 2 and 3 */
+    map_begin(&m); /* the next command knows nothing of it */
+    map_fetch(&m, 62, 8, 8, 0);
+    CHECK(memcmp(m.destination->bytes, m.window->bytes + 62, 8) == 0);
+    map_end(&m, 1, 8);
+}
+
+/* Spans over the edges of words are written anew and written over. */
+void test_map_own_write_words(void)
+{
+    map_desk m = fresh_map_desk();
+    lent first = *lend(4096, 0x99), second = *lend(4096, 0x77);
+    map_desk anew = with_bytes(m, &first), over = with_bytes(m, &second);
+    for (size_t i = 0; i < SPANS; i++) {
+        size_t address = spans[i][0], length = spans[i][1];
+        first.size = second.size = length;
+        map_begin(&m);
+        map_own_write(&anew, address, length);
+        change_window(&m);
+        map_fetch(&m, address, length, 0, length);
+        CHECK(memcmp(m.destination->bytes, first.bytes, length) == 0);
+        map_own_write(&over, address, 0);
+        change_window(&m);
+        map_fetch(&m, address, length, 0, length);
+        CHECK(memcmp(m.destination->bytes, second.bytes, length) == 0);
+        map_end(&m, 1, length);
+    }
+}
+
+/* Held and other bytes by turns are written at once. */
+void test_map_own_write_mixed(void)
+{
+    map_desk m = fresh_map_desk();
+    lent all = *lend(4096, 0x99);
+    map_desk many = with_bytes(m, &all);
+    for (size_t step = 2; step <= 65; step++) {
+        all.size = 39 * step + 20;
+        map_begin(&m);
+        for (size_t i = 0; i < 40; i++)
+            map_fetch(&m, 30 + step * i, 1, 1, 0);
+        map_own_write(&many, 20, 39 * step - 20);
+        change_window(&m);
+        map_fetch(&m, 19, 39 * step + 22, 2, 39 * step + 20);
+        CHECK(memcmp(m.destination->bytes + 1, all.bytes, all.size) == 0);
+        map_end(&m, 1, 39 * step + 22);
+    }
+}
+
+void test_map_own_write_joins(void)
+{
+    map_desk m = fresh_map_desk();
+    map_desk one = with_bytes(m, lend(1, 0x11)), six = with_bytes(m, lend(6, 0x22));
+    map_begin(&m);
+    map_own_write(&one, 62, 1);
+    map_own_write(&one, 64, 1); /* one address between */
+    map_end(&m, 2, 2);
+    map_begin(&m);
+    map_own_write(&one, 63, 1);
+    map_own_write(&one, 64, 1); /* they touch over the edge of a word, and are one */
+    map_own_write(&m, 65, 0); /* no byte: nothing is joined or held */
+    map_own_write(&m, 4096, 0);
+    map_end(&m, 1, 2);
+    map_begin(&m);
+    map_fetch(&m, 16, 4, 4, 0);
+    map_fetch(&m, 26, 4, 4, 0);
+    map_own_write(&six, 20, 6); /* between two */
+    map_own_write(&six, 27, 3);
+    map_own_write(&six, 4090, 6);
+    map_end(&m, 2, 23);
+}
+
+/* Every fault at once, and then one after the other is mended: the first in order is given. */
+static void own_ladder(map_desk m)
+{
+    map_desk e = with_bytes(m, lend(DOORCLOVER_TRANSFER + 1, 0x11));
+    size_t address = SIZE_MAX;
+    e.window = lend(DOORCLOVER_MAP_ADDRESSES + 1, 2);
+    break_map(&e);
+    map_own_refused(&e, DOORCLOVER_LENGTH_TOO_LONG, address);
+    e.bytes = lend(9, 0x99);
+    map_own_refused(&e, DOORCLOVER_WINDOW_BEYOND_MAP, address);
+    e.window = m.window;
+    map_own_refused(&e, DOORCLOVER_OUTSIDE_WINDOW, address);
+    address = 4096 - 9;
+    map_own_refused(&e, DOORCLOVER_STATE_BROKEN, address);
+    mend_map(&e);
+    map_own_refused(&e, DOORCLOVER_COMMAND_NOT_OPEN, address);
+    map_begin(&e);
+    hold_64(&e);
+    map_own_refused(&e, DOORCLOVER_TOO_MANY_RECORDS, address);
+    map_fetch(&e, 1, 1, 1, 0);
+    map_own_write(&e, address, 9);
+    map_end(&e, 64, 74);
+}
+
+void test_map_own_write_refused(void)
+{
+    map_desk m = fresh_map_desk();
+    map_desk two = with_bytes(m, lend(2, 0x99)), longer = with_bytes(m, lend(4097, 0x11));
+    map_desk wider = with_window(two, lend(DOORCLOVER_MAP_ADDRESSES + 1, 7));
+    map_desk none = with_bytes(wider, m.bytes), shorter = with_window(two, lend(20, 7));
+    own_ladder(m);
+    map_begin(&m);
+    map_own_refused(&longer, DOORCLOVER_LENGTH_TOO_LONG, 0);
+    map_own_refused(&wider, DOORCLOVER_WINDOW_BEYOND_MAP, 0);
+    map_own_refused(&wider, DOORCLOVER_WINDOW_BEYOND_MAP, 4097); /* and not 9 */
+    map_own_refused(&none, DOORCLOVER_WINDOW_BEYOND_MAP, 0);
+    map_fetch(&m, 20, 2, 2, 0);
+    map_own_refused(&shorter, DOORCLOVER_OUTSIDE_WINDOW, 20); /* held, but past this window */
+    map_own_refused(&shorter, DOORCLOVER_OUTSIDE_WINDOW, 19);
+    map_own_write(&shorter, 18, 2);
+    map_own_refused(&two, DOORCLOVER_OUTSIDE_WINDOW, 4095);
+    map_own_refused(&two, DOORCLOVER_OUTSIDE_WINDOW, SIZE_MAX);
+    map_own_refused(&two, DOORCLOVER_OUTSIDE_WINDOW, SIZE_MAX - 1);
+    map_own_refused(&m, DOORCLOVER_OUTSIDE_WINDOW, 4097);
+    map_end(&m, 1, 4);
+    map_own_refused(&two, DOORCLOVER_COMMAND_NOT_OPEN, 0);
+    map_own_refused(&m, DOORCLOVER_COMMAND_NOT_OPEN, 0);
+}
+
+/* Where there is no room, map and window stay as they were. */
+void test_map_own_write_full(void)
+{
+    map_desk m = fresh_map_desk();
+    map_desk one = with_bytes(m, lend(1, 0x99)), many = with_bytes(m, lend(3968, 0x77));
+    map_desk all = with_bytes(m, lend(4096, 0x55));
+    map_begin(&m);
+    hold_64(&m);
+    map_own_refused(&one, DOORCLOVER_TOO_MANY_RECORDS, 128);
+    map_own_refused(&one, DOORCLOVER_TOO_MANY_RECORDS, 4095);
+    map_own_refused(&many, DOORCLOVER_TOO_MANY_RECORDS, 128);
+    map_own_write(&m, 128, 0);
+    map_own_write(&one, 126, 0); /* what is held has its room */
+    map_own_write(&one, 127, 1); /* it touches the last one */
+    map_own_refused(&one, DOORCLOVER_TOO_MANY_RECORDS, 200);
+    map_own_write(&one, 1, 1); /* it touches two */
+    map_own_write(&one, 200, 1);
+    map_own_refused(&one, DOORCLOVER_TOO_MANY_RECORDS, 202);
+    map_own_write(&many, 128, 3967);
+    map_own_write(&all, 0, 62);
+    map_end(&m, 1, 4096);
+}
+
 void test_map_nulls(void)
 {
     map_desk m = fresh_map_desk();
@@ -281,5 +449,13 @@ void test_map_nulls(void)
     map_fetch_refused(&neither, DOORCLOVER_OUTSIDE_WINDOW, 0, 1);
     map_fetch_refused(&neither, DOORCLOVER_OUTSIDE_WINDOW, 1, 0);
     map_fetch_refused(&no_room, DOORCLOVER_BUFFER_TOO_SHORT, 0, 1);
+    neither.bytes = &nothing;
+    map_own_write(&neither, 0, 0);
+    map_own_refused(&neither, DOORCLOVER_OUTSIDE_WINDOW, 1);
+    neither.bytes = lend(1, 1);
+    map_own_refused(&neither, DOORCLOVER_OUTSIDE_WINDOW, 0);
+    neither.window = m.window;
+    neither.bytes = &nothing;
+    map_own_write(&neither, 4096, 0);
     map_end(&m, 1, 4);
 }

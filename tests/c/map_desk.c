@@ -7,7 +7,7 @@ map_desk fresh_map_desk(void)
     map_desk m = {lend(sizeof(uint64_t), 0xff),
                   lend(DOORCLOVER_MAP_WORDS * sizeof(uint64_t), 0xff),
                   lend(DOORCLOVER_MAP_ADDRESSES, 0xff), lend(DOORCLOVER_MAP_ADDRESSES, 0),
-                  lend(DOORCLOVER_TRANSFER, 0xee)};
+                  lend(DOORCLOVER_TRANSFER, 0xee), lend(0, 0)};
     for (size_t i = 0; i < m.window->size; i++)
         m.window->bytes[i] = host_byte(i);
     doorclover_map_fresh(open_of(&m), bits_of(&m), m.values->bytes);
@@ -151,5 +151,41 @@ void map_fetch(const map_desk *m, size_t address, size_t length, size_t fresh, s
     allow(m->words, 0, m->words->size);
     allow(m->values, 0, m->values->size);
     allow(m->destination, 0, length);
+    CHECK(all_kept());
+}
+
+static doorclover_written call_own(const map_desk *m, size_t address)
+{
+    keep_all();
+    return doorclover_map_own_write(open_of(m), bits_of(m), m->values->bytes, m->window->bytes,
+                                    m->window->size, address, m->bytes->bytes, m->bytes->size);
+}
+
+void map_own_refused(const map_desk *m, doorclover_status want, size_t address)
+{
+    doorclover_written r = call_own(m, address);
+    turned_away("map own write", want, r.status, r.bytes | r.fresh);
+}
+
+/* The bytes are the values of their addresses, whatever these had before, and are in the window. */
+void map_own_write(const map_desk *m, size_t address, size_t fresh)
+{
+    uint64_t words[DOORCLOVER_MAP_WORDS];
+    uint8_t values[DOORCLOVER_MAP_ADDRESSES];
+    size_t size = m->bytes->size;
+    memcpy(words, bits_of(m), sizeof words);
+    memcpy(values, m->values->bytes, sizeof values);
+    for (size_t i = 0; i < size; i++) {
+        words[(address + i) / 64] |= (uint64_t)1 << (address + i) % 64;
+        values[address + i] = m->bytes->bytes[i];
+    }
+    doorclover_written r = call_own(m, address);
+    CHECK(r.status == DOORCLOVER_OK && r.bytes == size && r.fresh == fresh);
+    CHECK(memcmp(bits_of(m), words, sizeof words) == 0);
+    CHECK(memcmp(m->values->bytes, values, sizeof values) == 0);
+    CHECK(size == 0 || memcmp(m->window->bytes + address, m->bytes->bytes, size) == 0);
+    allow(m->words, 0, m->words->size);
+    allow(m->values, 0, m->values->size);
+    allow(m->window, address, size);
     CHECK(all_kept());
 }

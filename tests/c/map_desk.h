@@ -1,7 +1,7 @@
 /*
  * A desk for the byte map: what is lent to its calls, each part of a map in pages of its own, and the
- * calls made with it. Every call is tried in the same way: its reply is compared, and the whole map and
- * the destination with what the rules make of what was there before.
+ * calls made with it. Every call is tried in the same way: its reply is compared, and the whole map, the
+ * destination and the window with what the rules make of what was there before.
  */
 #ifndef MAP_DESK_H
 #define MAP_DESK_H
@@ -14,9 +14,10 @@ typedef struct {
     lent *values;
     lent *window;
     lent *destination;
+    lent *bytes; /* what is written */
 } map_desk;
 
-/* A fresh map, a window of 4,096 bytes of which no two neighbours agree, and a destination for all. */
+/* A fresh map, a window of 4,096 bytes of which no two neighbours agree, a destination for all, no bytes. */
 map_desk fresh_map_desk(void);
 
 uint64_t *open_of(const map_desk *m);
@@ -37,10 +38,12 @@ void change_window(const map_desk *m);
 void map_begin_refused(const map_desk *m, doorclover_status want);
 void map_fetch_refused(const map_desk *m, doorclover_status want, size_t address, size_t length);
 void map_end_refused(const map_desk *m, doorclover_status want);
+void map_own_refused(const map_desk *m, doorclover_status want, size_t address);
 
 /* A call that is done: its reply is the one wanted, and what is lent has become what it must. */
 void map_begin(const map_desk *m);
 void map_fetch(const map_desk *m, size_t address, size_t length, size_t fresh, size_t replayed);
 void map_end(const map_desk *m, size_t records, size_t bytes);
+void map_own_write(const map_desk *m, size_t address, size_t fresh);
 
 #endif

@@ -81,8 +81,10 @@ static void name_if(unsigned long before, const shape *s)
 
 void test_broken_maps(void)
 {
-    map_desk m = fresh_map_desk(), short_of = m;
+    map_desk m = fresh_map_desk(), short_of = m, all = m;
     short_of.window = lend(3, 1);
+    short_of.bytes = lend(3, 0x99);
+    all.bytes = lend(4096, 0x99);
     for (size_t i = 0; i < sizeof broken / sizeof broken[0]; i++) {
         unsigned long before = failures;
         (void)lay(&m, &broken[i]);
@@ -92,13 +94,17 @@ void test_broken_maps(void)
         map_fetch_refused(&m, DOORCLOVER_STATE_BROKEN, 0, 4096);
         map_fetch_refused(&short_of, DOORCLOVER_STATE_BROKEN, 0, 3);
         map_end_refused(&m, DOORCLOVER_STATE_BROKEN);
+        map_own_refused(&m, DOORCLOVER_STATE_BROKEN, 0);
+        map_own_refused(&all, DOORCLOVER_STATE_BROKEN, 0);
+        map_own_refused(&short_of, DOORCLOVER_STATE_BROKEN, 0);
         name_if(before, &broken[i]);
     }
 }
 
 void test_maps_at_their_limits(void)
 {
-    map_desk m = fresh_map_desk();
+    map_desk m = fresh_map_desk(), all = m;
+    all.bytes = lend(4096, 0x99);
     for (size_t i = 0; i < sizeof whole / sizeof whole[0]; i++) {
         unsigned long before = failures;
         size_t bytes = lay(&m, &whole[i]);
@@ -107,6 +113,10 @@ void test_maps_at_their_limits(void)
         map_end(&m, whole[i].runs, bytes);
         (void)lay(&m, &whole[i]);
         map_fetch(&m, 0, 4096, 4096 - bytes, bytes);
+        map_end(&m, 1, 4096);
+        (void)lay(&m, &whole[i]);
+        map_own_write(&m, 0, 0);
+        map_own_write(&all, 0, 4096 - bytes);
         map_end(&m, 1, 4096);
         name_if(before, &whole[i]);
     }
@@ -151,12 +161,15 @@ void test_maps_side_by_side(void)
     }
     for (size_t i = 0; i < 2; i++)
         map_begin(&pair[i]);
+    pair[0].bytes = pair[1].bytes = lend(2, 0x99);
     for (size_t k = 0; k < DOORCLOVER_RECORDS; k++)
-        for (size_t i = 0; i < 2; i++)
+        for (size_t i = 0; i < 2; i++) {
             map_fetch(&pair[i], 64 * k, k, k, 0);
+            map_own_write(&pair[i], 64 * k, k < 2 ? 2 - k : 0);
+        }
     CHECK(memcmp(&d->maps[0], &d->maps[1], sizeof(doorclover_map)) == 0);
-    map_end(&pair[0], 63, 2016);
-    map_fetch(&pair[1], 0, 4096, 2080, 2016);
+    map_end(&pair[0], 64, 2019);
+    map_fetch(&pair[1], 0, 4096, 2077, 2019);
     map_end(&pair[1], 1, 4096);
 }
 
@@ -182,26 +195,28 @@ static int runs_are_records(const map_desk *m, const desk *d, size_t command)
     return doorclover_show(state_of(d), command, index).status == DOORCLOVER_NO_SUCH_RECORD;
 }
 
-/* A call of each, with the same numbers and the same window. Returns the status. */
-static doorclover_status made_call(const map_desk *m, const desk *d, size_t command, size_t kind)
+/* The calls of a map and of a command, with the same numbers and equal windows. Each returns the status. */
+static doorclover_status made_begin(const map_desk *m, const desk *d, size_t command)
 {
-    uint64_t *open = open_of(m), *words = bits_of(m);
-    uint8_t *values = m->values->bytes;
-    if (kind == 0) {
-        doorclover_status begun = doorclover_map_begin(open, words, values).status;
-        CHECK(begun == doorclover_begin(state_of(d), d->store->bytes, d->store->size, command).status);
-        return begun;
-    }
-    if (kind == 1) {
-        doorclover_ended e = doorclover_map_end(open, words, values);
-        doorclover_ended f = doorclover_end(state_of(d), d->store->bytes, d->store->size, command);
-        CHECK(e.status == f.status && e.records == f.records && e.bytes == f.bytes);
-        return e.status;
-    }
-    size_t address = made(30) == 0 ? SIZE_MAX - made(9) : made(4097);
-    size_t length = made(60) == 0 ? 4090 + made(9) : made(8) == 0 ? made(150) : made(4);
+    doorclover_status status = doorclover_map_begin(open_of(m), bits_of(m), m->values->bytes).status;
+    CHECK(status == doorclover_begin(state_of(d), d->store->bytes, d->store->size, command).status);
+    return status;
+}
+
+static doorclover_status made_end(const map_desk *m, const desk *d, size_t command)
+{
+    doorclover_ended r = doorclover_map_end(open_of(m), bits_of(m), m->values->bytes);
+    doorclover_ended s = doorclover_end(state_of(d), d->store->bytes, d->store->size, command);
+    CHECK(r.status == s.status && r.records == s.records && r.bytes == s.bytes);
+    return r.status;
+}
+
+static doorclover_status made_fetch(const map_desk *m, const desk *d, size_t command, size_t address,
+                                    size_t length)
+{
     size_t room = made(40) == 0 ? made(4) : m->destination->size;
-    doorclover_fetched r = doorclover_map_fetch(open, words, values, m->window->bytes, m->window->size,
+    doorclover_fetched r = doorclover_map_fetch(open_of(m), bits_of(m), m->values->bytes,
+                                                m->window->bytes, m->window->size,
                                                 m->destination->bytes, room, address, length);
     doorclover_fetched s = doorclover_fetch(state_of(d), d->store->bytes, d->store->size,
                                             d->window->bytes, d->window->size,
@@ -210,28 +225,67 @@ static doorclover_status made_call(const map_desk *m, const desk *d, size_t comm
     return r.status;
 }
 
+static doorclover_status made_own(const map_desk *m, const desk *d, size_t command, size_t address,
+                                  size_t length)
+{
+    for (size_t i = 0; i < length; i++)
+        m->bytes->bytes[i] = (uint8_t)made(256);
+    doorclover_written r = doorclover_map_own_write(open_of(m), bits_of(m), m->values->bytes,
+                                                    m->window->bytes, m->window->size, address,
+                                                    m->bytes->bytes, length);
+    doorclover_written s = doorclover_own_write(state_of(d), d->store->bytes, d->store->size,
+                                                d->window->bytes, d->window->size, command, address,
+                                                m->bytes->bytes, length);
+    CHECK(r.status == s.status && r.bytes == s.bytes && r.fresh == s.fresh);
+    return r.status;
+}
+
+/* One of them; most are fetches and own writes. */
+static doorclover_status made_call(const map_desk *m, const desk *d, size_t command)
+{
+    size_t kind = made(200);
+    if (kind < 9)
+        return made_begin(m, d, command);
+    if (kind == 9)
+        return made_end(m, d, command);
+    size_t address = made(30) == 0 ? SIZE_MAX - made(9) : made(4097);
+    size_t length = made(60) == 0 ? 4090 + made(9) : made(8) == 0 ? made(150) : made(4);
+    return kind % 3 == 0 ? made_own(m, d, command, address, length)
+                         : made_fetch(m, d, command, address, length);
+}
+
+/* What a fetch has delivered and a write has written is the same, and so is what is held. */
+static void check_alike(const map_desk *m, const desk *d, size_t command)
+{
+    CHECK(memcmp(m->destination->bytes, d->destination->bytes, m->destination->size) == 0);
+    CHECK(memcmp(m->window->bytes, d->window->bytes, DOORCLOVER_MAP_ADDRESSES) == 0);
+    CHECK(*open_of(m) == 0 || runs_are_records(m, d, command));
+}
+
 /* From fresh, a map and each command get the same replies and the same bytes. */
 void test_map_as_a_command(void)
 {
     static const doorclover_status wanted[] = {0, 4, 9, 10, 21, 22, 24};
     desk d = fresh_desk();
     map_desk m = fresh_map_desk();
-    lent window = *m.window;
-    m.window = d.window = &window;
+    lent windows[2] = {*m.window, *d.window};
+    m.window = &windows[0];
+    d.window = &windows[1];
+    m.bytes = lend(DOORCLOVER_TRANSFER + 2, 0);
     for (size_t command = 0; command < DOORCLOVER_COMMANDS; command++) {
         unsigned long seen[32] = {0};
         seed = command;
         for (size_t n = 0; n < 1000; n++) {
-            window.size = made(3) == 0 ? made(4097) : 4096;
-            window.bytes[made(4096)] ^= (uint8_t)(1 + made(255));
-            size_t kind = made(200);
-            seen[made_call(&m, &d, command, kind > 199 - 9 ? 0 : kind + 1)]++;
-            CHECK(memcmp(m.destination->bytes, d.destination->bytes, m.destination->size) == 0);
-            CHECK(*open_of(&m) == 0 || runs_are_records(&m, &d, command));
+            size_t changed = made(4096);
+            windows[0].size = windows[1].size = made(3) == 0 ? made(4097) : 4096;
+            windows[0].bytes[changed] ^= (uint8_t)(1 + made(255));
+            windows[1].bytes[changed] = windows[0].bytes[changed];
+            seen[made_call(&m, &d, command)]++;
+            check_alike(&m, &d, command);
         }
         for (size_t i = 0; i < sizeof wanted / sizeof wanted[0]; i++)
             CHECK(seen[wanted[i]] > 0);
         if (*open_of(&m) != 0)
-            CHECK(made_call(&m, &d, command, 1) == DOORCLOVER_OK);
+            CHECK(made_end(&m, &d, command) == DOORCLOVER_OK);
     }
 }

@@ -65,7 +65,8 @@ static void name_if(unsigned long before, const words *w)
 
 void test_broken_words(void)
 {
-    desk d = fresh_desk();
+    desk d = fresh_desk(), two = d;
+    two.bytes = lend(2, 0x99);
     for (size_t i = 0; i < sizeof broken / sizeof broken[0]; i++) {
         unsigned long before = failures;
         lay(&d, &broken[i]);
@@ -75,15 +76,28 @@ void test_broken_words(void)
             fetch_refused(&d, DOORCLOVER_STATE_BROKEN, c, 0, 0);
             end_refused(&d, DOORCLOVER_STATE_BROKEN, c);
             own_refused(&d, DOORCLOVER_STATE_BROKEN, c, 0);
+            own_refused(&two, DOORCLOVER_STATE_BROKEN, c, 9);
             show_refused(&d, DOORCLOVER_STATE_BROKEN, c, 0);
         }
         name_if(before, &broken[i]);
     }
 }
 
+/* Each record is written over, at its first byte and at its last, and is held as before. */
+static void write_over_records(const desk *d, size_t records)
+{
+    const uint16_t *w = words_of(d, 0);
+    for (size_t k = 0; k < records; k++) {
+        own_write(d, 0, w[1 + 2 * k], 0);
+        own_write(d, 0, (size_t)w[1 + 2 * k] + w[2 + 2 * k] - 1, 0);
+    }
+}
+
 void test_words_at_their_limits(void)
 {
-    desk d = fresh_desk();
+    desk d = fresh_desk(), one = d;
+    one.window = lend(DOORCLOVER_WINDOW, 7);
+    one.bytes = lend(1, 0x99);
     for (size_t i = 0; i < sizeof whole / sizeof whole[0]; i++) {
         unsigned long before = failures;
         lay(&d, &whole[i]);
@@ -93,7 +107,8 @@ void test_words_at_their_limits(void)
         for (size_t k = 0; k < records; k++)
             show(&d, 0, k, w[1 + 2 * k], w[2 + 2 * k]);
         show_refused(&d, DOORCLOVER_NO_SUCH_RECORD, 0, records);
-        own_write(&d, 0, 0);
+        own_write(&d, 0, 0, 0);
+        write_over_records(&one, records);
         fetch(&d, 0, 0, 0, 0, 0);
         end(&d, 0, records, bytes);
         name_if(before, &whole[i]);
@@ -120,12 +135,14 @@ void test_state_in_a_struct(void)
     doorclover_fresh(state_of(&d));
     allow(d.state, 0, d.state->size);
     CHECK(all_kept());
+    d.bytes = lend(20, 0x99);
     for (size_t c = 0; c < DOORCLOVER_COMMANDS; c++) {
         begin(&d, c);
         fetch(&d, c, c, 100, 100, 0);
+        own_write(&d, c, c + 90, 10);
     }
     for (size_t c = 0; c < DOORCLOVER_COMMANDS; c++)
-        end(&d, c, 1, 100);
+        end(&d, c, 1, 110);
 }
 
 /* The same calls on two states that lie side by side, taking turns. Each leaves the other alone. */

@@ -16,7 +16,11 @@ void test_end_refused(void);
 void test_host_write(void);
 void test_host_write_refused(void);
 void test_own_write(void);
+void test_own_write_alone(void);
+void test_own_write_joins(void);
+void test_own_write_of_none(void);
 void test_own_write_refused(void);
+void test_own_write_full(void);
 void test_show(void);
 void test_nulls(void);
 
@@ -32,6 +36,7 @@ void test_frame_read_refused(void);
 void test_frame_write(void);
 void test_frame_write_refused(void);
 void test_journal(void);
+void test_journal_own_write(void);
 void test_journal_cut(void);
 void test_journal_refused(void);
 void test_journal_nulls(void);
@@ -47,6 +52,12 @@ void test_map_fetch_joins(void);
 void test_map_fetch_refused(void);
 void test_map_fetch_full(void);
 void test_map_end(void);
+void test_map_own_write(void);
+void test_map_own_write_words(void);
+void test_map_own_write_mixed(void);
+void test_map_own_write_joins(void);
+void test_map_own_write_refused(void);
+void test_map_own_write_full(void);
 void test_map_nulls(void);
 
 /* maps.c */

@@ -124,13 +124,15 @@ static void judge(const char *text, bool right, size_t fresh, size_t replayed, u
     struct tally stored = tally(window.stores, window.to_store, window.size);
     struct tally kept = tally(store.loads, store.to_load, store.size);
     struct tally valued = tally(values.loads, values.to_load, values.size);
+    /* places of given bytes that were not stored */
+    size_t lost = tally(store.stores, store.to_store, store.size).never + tally(values.stores, values.to_store, values.size).never;
     struct tally put = tally(destination.stores, destination.to_store, destination.size);
     /* loads of the destination, stores behind what is delivered, another command's part, and values that are not lent */
     size_t astray = tally(destination.loads, destination.to_load, destination.size).other + put.other +
                     tally(store.loads, own_part, store.size).other + tally(store.stores, own_part, store.size).other +
                     tally(values.loads, own_values, values.size).other + tally(values.stores, own_values, values.size).other;
-    bool ok = right && each_once(loaded) && each_once(stored) && kept.never == 0 && valued.never == 0 && put.never == 0 &&
-              astray == 0;
+    bool ok = right && each_once(loaded) && each_once(stored) && kept.never == 0 && valued.never == 0 && lost == 0 &&
+              put.never == 0 && astray == 0;
     if (ok) passed++;
     else failed++;
     if (ok && text[0] == '-') return;
@@ -160,6 +162,20 @@ static void forget_all(void) {
     memset(own_values, 0, values.size);
 }
 
+/* It delivers these bytes: it loads their places and stores to the front of the destination. */
+static void ask_delivery(size_t command, size_t address, size_t length) {
+    if (command == MAP) ask(values.to_load, address, length);
+    else ask(store.to_load, place(command, address), length);
+    ask(destination.to_store, 0, length);
+}
+
+/* It holds these bytes, which it was given: it stores their places. */
+static void ask_holding(size_t command, size_t address, size_t length) {
+    memset(held[command] + address, true, length);
+    if (command == MAP) ask(values.to_store, address, length);
+    else ask(store.to_store, place(command, address), length);
+}
+
 /* The lines of the report, one call after the other. */
 static void hold_against(FILE *report, FILE *trace) {
     char line[256], text[128] = "", name[32];
@@ -186,11 +202,11 @@ static void hold_against(FILE *report, FILE *trace) {
             ask(window.to_load, a, n);
             memset(held[command] + a, true, n);
         } else if (sscanf(line, "deliver %zu %zu", &a, &n) == 2) {
-            if (command == MAP) ask(values.to_load, a, n);
-            else ask(store.to_load, place(command, a), n);
-            ask(destination.to_store, 0, n);
+            ask_delivery(command, a, n);
         } else if (sscanf(line, "write %zu %zu", &a, &n) == 2) {
             ask(window.to_store, a, n);
+        } else if (sscanf(line, "hold %zu %zu", &a, &n) == 2) {
+            ask_holding(command, a, n);
         } else if (sscanf(line, "reply %d %zu %zu %u", &right, &fresh, &replayed, &status) == 4) {
             judge(text, right, fresh, replayed, status);
         } else {

@@ -12,6 +12,8 @@
  *     deliver A N           it loads the places of the store, or of the values, that have these bytes, and stores to the front of
  *                           the destination
  *     write A N             the window's bytes that it stores, each of them once
+ *     hold A N              the command holds these bytes from here on, which it was given: it stores their places of the store, or
+ *                           of the values
  *     reply OK FRESH REPLAYED STATUS    what it replied; OK is 1 if reply and delivered bytes are those of the model
  */
 #include <stdbool.h>
@@ -47,23 +49,23 @@ static uint64_t map_open, map_words[DOORCLOVER_MAP_WORDS];
 static size_t map_window_size = DOORCLOVER_MAP_ADDRESSES;
 
 /*
- * The model: in which turn of a command a byte was fetched, what it was at the first fetch of the turn, and how many there were.
- * The byte map's command stands behind the others.
+ * The model: in which turn of a command a byte was fetched or written by it, what it wrote there last in this turn or else what the
+ * first fetch met, and how many such bytes there are. The byte map's command stands behind the others.
  */
 enum { MAP = DOORCLOVER_COMMANDS, COMMANDS };
 static uint32_t turn[COMMANDS];
 static size_t bytes[COMMANDS];
-static uint32_t fetched[COMMANDS][DOORCLOVER_WINDOW];
-static uint8_t first[COMMANDS][DOORCLOVER_WINDOW];
+static uint32_t held_in[COMMANDS][DOORCLOVER_WINDOW];
+static uint8_t value[COMMANDS][DOORCLOVER_WINDOW];
 
 /* Has the command hold the span, says which of its bytes are to be loaded, and returns their number. */
 static size_t hold(size_t command, size_t address, size_t length) {
     size_t fresh = 0, run = 0;
     for (size_t i = address; i < address + length; i++) {
-        bool held = fetched[command][i] == turn[command];
+        bool held = held_in[command][i] == turn[command];
         if (!held) {
-            fetched[command][i] = turn[command];
-            first[command][i] = window[i];
+            held_in[command][i] = turn[command];
+            value[command][i] = window[i];
             run++;
         }
         if (run > 0 && (held || i + 1 == address + length)) {
@@ -76,9 +78,22 @@ static size_t hold(size_t command, size_t address, size_t length) {
     return fresh;
 }
 
+/* Has the command hold the given bytes, and returns how many of their addresses it had not held. */
+static size_t hold_given(size_t command, size_t address, size_t size) {
+    size_t fresh = 0;
+    printf("hold %zu %zu\n", address, size);
+    for (size_t i = 0; i < size; i++) {
+        fresh += held_in[command][address + i] != turn[command];
+        held_in[command][address + i] = turn[command];
+        value[command][address + i] = given[i];
+    }
+    bytes[command] += fresh;
+    return fresh;
+}
+
 static bool delivered(size_t command, size_t address, size_t length) {
     for (size_t i = 0; i < length; i++)
-        if (destination[i] != first[command][address + i]) return false;
+        if (destination[i] != value[command][address + i]) return false;
     return true;
 }
 
@@ -116,7 +131,7 @@ static void fetch(const char *text, size_t command, size_t address, size_t lengt
     printf("call %s\npart %zu\n", text, command);
     size_t fresh = hold(command, address, length);
     printf("deliver %zu %zu\n", address, length);
-    for (size_t i = 0; i < length; i++) destination[i] = (uint8_t)~first[command][address + i];
+    for (size_t i = 0; i < length; i++) destination[i] = (uint8_t)~value[command][address + i];
     doorclover_fetched r = call_fetch(command, address, length);
     bool counts = r.status == 0 && r.fresh == fresh && r.replayed == length - fresh;
     reply(counts && delivered(command, address, length), r.fresh, r.replayed, r.status);
@@ -158,7 +173,7 @@ static void map_fetch(const char *text, size_t address, size_t length) {
     printf("call %s\nmap\n", text);
     size_t fresh = hold(MAP, address, length);
     printf("deliver %zu %zu\n", address, length);
-    for (size_t i = 0; i < length; i++) destination[i] = (uint8_t)~first[MAP][address + i];
+    for (size_t i = 0; i < length; i++) destination[i] = (uint8_t)~value[MAP][address + i];
     doorclover_fetched r = call_map_fetch(address, length);
     bool counts = r.status == 0 && r.fresh == fresh && r.replayed == length - fresh;
     reply(counts && delivered(MAP, address, length), r.fresh, r.replayed, r.status);
@@ -170,24 +185,66 @@ static void refused_map_fetch(const char *text, uint32_t status, size_t address,
     reply(r.status == status && r.fresh == 0 && r.replayed == 0, r.fresh, r.replayed, r.status);
 }
 
-/* A write by the host, or by a command. It is refused if a status is given. */
+/* What the next write is given: other bytes than the one before it. */
+static void change_given(void) {
+    static uint8_t step;
+    step++;
+    for (size_t i = 0; i < sizeof given; i++) given[i] = (uint8_t)(7 * i + 11 * step);
+}
+
+/* A write by the host. It is refused if a status is given. */
 static void host_write(const char *text, uint32_t status, size_t address, size_t size) {
     printf("call %s\n", text);
+    change_given();
     if (status == 0) printf("write %zu %zu\n", address, size);
     marker = 1;
     doorclover_written r = doorclover_host_write(window, window_size, address, given, size);
     marker = 0;
-    reply(r.status == status && r.bytes == (status == 0 ? size : 0), 0, 0, r.status);
+    reply(r.status == status && r.bytes == (status == 0 ? size : 0) && r.fresh == 0, r.fresh, 0, r.status);
 }
 
-static void own_write(const char *text, uint32_t status, size_t command, size_t address, size_t size) {
-    printf("call %s\n", text);
-    if (status == 0) printf("write %zu %zu\n", address, size);
+static doorclover_written call_own_write(size_t command, size_t address, size_t size) {
     marker = 1;
     doorclover_written r =
         doorclover_own_write(state, store, store_size, window, window_size, command, address, given, size);
     marker = 0;
-    reply(r.status == status && r.bytes == (status == 0 ? size : 0), 0, 0, r.status);
+    return r;
+}
+
+static void own_write(const char *text, size_t command, size_t address, size_t size) {
+    printf("call %s\npart %zu\nwrite %zu %zu\n", text, command, address, size);
+    change_given();
+    size_t fresh = hold_given(command, address, size);
+    doorclover_written r = call_own_write(command, address, size);
+    reply(r.status == 0 && r.bytes == size && r.fresh == fresh, r.fresh, 0, r.status);
+}
+
+static void refused_own_write(const char *text, uint32_t status, size_t command, size_t address, size_t size) {
+    printf("call %s\n", text);
+    doorclover_written r = call_own_write(command, address, size);
+    reply(r.status == status && r.bytes == 0 && r.fresh == 0, r.fresh, 0, r.status);
+}
+
+static doorclover_written call_map_own_write(size_t address, size_t size) {
+    marker = 1;
+    doorclover_written r =
+        doorclover_map_own_write(&map_open, map_words, values, window, map_window_size, address, given, size);
+    marker = 0;
+    return r;
+}
+
+static void map_own_write(const char *text, size_t address, size_t size) {
+    printf("call %s\nmap\nwrite %zu %zu\n", text, address, size);
+    change_given();
+    size_t fresh = hold_given(MAP, address, size);
+    doorclover_written r = call_map_own_write(address, size);
+    reply(r.status == 0 && r.bytes == size && r.fresh == fresh, r.fresh, 0, r.status);
+}
+
+static void refused_map_own_write(const char *text, uint32_t status, size_t address, size_t size) {
+    printf("call %s\nmap\n", text);
+    doorclover_written r = call_map_own_write(address, size);
+    reply(r.status == status && r.bytes == 0 && r.fresh == 0, r.fresh, 0, r.status);
 }
 
 /* The window gets other bytes everywhere, as between two calls it may. */
@@ -287,19 +344,71 @@ static void refused(void) {
     refused_fetch("fetch 5 16384+2, too many bytes", 23, 5, 16384, 2);
 }
 
-static void writes(void) {
+static void host_writes(void) {
     host_write("host write 2001+64", 0, 2001, 64);
     host_write("host write 8191+4096", 0, 8191, 4096);
     host_write("host write 100+0", 0, 100, 0);
-    own_write("own write 3 1001+1", 0, 3, 1001, 1);
-    own_write("own write 3 5003+99", 0, 3, 5003, 99);
-    own_write("own write 3 40961+4096", 0, 3, 40961, 4096);
-    fetch("fetch 3 1001+1 after the writes", 3, 1001, 1);
-    fetch("fetch 3 5003+99 after the writes", 3, 5003, 99);
     host_write("host write 65530+7, outside", 9, 65530, 7);
     host_write("host write 0+4097, too long", 4, 0, 4097);
-    own_write("own write 6 0+8, not open", 21, 6, 0, 8);
-    own_write("own write 3 65530+7, outside", 9, 3, 65530, 7);
+}
+
+/* Own writes of bytes that are held, that are not, and of both; the fetches behind them load nothing that was written. */
+static void own_writes(void) {
+    own_write("own write 3 1001+1, held", 3, 1001, 1);
+    own_write("own write 3 5015+30, inside a record", 3, 5015, 30);
+    own_write("own write 3 5003+99, middle held", 3, 5003, 99);
+    own_write("own write 3 7013+1, touching none", 3, 7013, 1);
+    own_write("own write 3 7014+16, touching below", 3, 7014, 16);
+    own_write("own write 3 7009+4, touching above", 3, 7009, 4);
+    own_write("own write 3 6100+30, front held", 3, 6100, 30);
+    own_write("own write 3 6000+20, end held", 3, 6000, 20);
+    own_write("own write 3 9000+0", 3, 9000, 0);
+    own_write("own write 3 65536+0", 3, 65536, 0);
+    own_write("own write 5 16385+4096, all held", 5, 16385, 4096);
+    change_window(10);
+    fetch("fetch 3 1001+1 after the writes", 3, 1001, 1);
+    fetch("fetch 3 5003+99 after the writes", 3, 5003, 99);
+    fetch("fetch 3 7000+40, middle written", 3, 7000, 40);
+    fetch("fetch 3 6000+130 after the writes", 3, 6000, 130);
+    fetch("fetch 5 16385+4096 after the writes", 5, 16385, 4096);
+    begin("begin 7", 7);
+    own_write("own write 7 40961+4096, none held", 7, 40961, 4096);
+    change_window(11);
+    fetch("fetch 7 40961+4096 after the write", 7, 40961, 4096);
+    end("end 7", 7);
+}
+
+/* Own writes over many records, and none where there is room for no more. */
+static void own_writes_of_many(void) {
+    begin("begin 4", 4);
+    for (size_t i = 0; i < DOORCLOVER_RECORDS; i++) own_write("-own write 4, a single byte", 4, 2 * i + 1, 1);
+    refused_own_write("own write 4 129+1, too many records", 24, 4, 129, 1);
+    own_write("own write 4 129+0", 4, 129, 0);
+    own_write("own write 4 128+1, touching the last", 4, 128, 1);
+    own_write("own write 4 1+3, over 2 records", 4, 1, 3);
+    own_write("own write 4 1+127, over 63 records", 4, 1, 127);
+    change_window(12);
+    fetch("fetch 4 1+128 after the writes", 4, 1, 128);
+    end("end 4", 4);
+}
+
+static void refused_own_writes(void) {
+    refused_own_write("own write 3 0+4097, too long", 4, 3, 0, 4097);
+    refused_own_write("own write 8 0+1, command too high", 6, 8, 0, 1);
+    window_size = DOORCLOVER_WINDOW + 1;
+    refused_own_write("own write 3 0+1, window too long", 7, 3, 0, 1);
+    window_size = DOORCLOVER_WINDOW;
+    store_size = DOORCLOVER_STORE - 1;
+    refused_own_write("own write 3 1001+1, store too short", 8, 3, 1001, 1);
+    refused_own_write("own write 3 1001+0, store too short", 8, 3, 1001, 0);
+    store_size = DOORCLOVER_STORE;
+    refused_own_write("own write 3 65530+7, outside", 9, 3, 65530, 7);
+    refused_own_write("own write 3 2^64-1+2, outside", 9, 3, SIZE_MAX, 2);
+    state = &broken;
+    refused_own_write("own write 3 0+8, broken state", 20, 3, 0, 8);
+    state = &whole;
+    refused_own_write("own write 6 0+8, not open", 21, 6, 0, 8);
+    refused_own_write("own write 5 16384+2, too many bytes", 23, 5, 16384, 2);
 }
 
 static void ends(void) {
@@ -380,19 +489,79 @@ static void refused_by_the_map(void) {
     map_end("map end");
 }
 
-/* Some calls of each kind of fetch: enough to tell a wrong one. */
+/* The same of the map's own writes. */
+static void own_writes_of_the_map(void) {
+    map_begin("map begin");
+    map_fetch("map fetch 1001+8", 1001, 8);
+    map_own_write("map own write 1003+1, held", 1003, 1);
+    map_own_write("map own write 1001+8, all held", 1001, 8);
+    map_own_write("map own write 995+8, end held", 995, 8);
+    map_own_write("map own write 1005+16, front held", 1005, 16);
+    map_own_write("map own write 990+100, middle held", 990, 100);
+    map_own_write("map own write 2047+17, none held", 2047, 17);
+    map_own_write("map own write 2112+64, a whole word", 2112, 64);
+    map_own_write("map own write 0+1, the first byte", 0, 1);
+    map_own_write("map own write 4079+17, up to the last", 4079, 17);
+    map_own_write("map own write 500+0", 500, 0);
+    map_own_write("map own write 4096+0", 4096, 0);
+    change_window(13);
+    map_fetch("map fetch 990+100 after the writes", 990, 100);
+    map_fetch("map fetch 2040+200, written in two places", 2040, 200);
+    map_own_write("map own write 0+4096, all", 0, 4096);
+    change_window(14);
+    map_fetch("map fetch 0+4096 after the write", 0, 4096);
+    map_end("map end");
+}
+
+/* Own writes over many runs, and none where there is room for no more. */
+static void own_writes_of_many_runs(const char *text, size_t length, size_t step) {
+    size_t last = 70 + (DOORCLOVER_RECORDS - 1) * step;
+    map_begin("-map begin");
+    for (size_t i = 0; i < DOORCLOVER_RECORDS; i++) map_own_write("-map own write, a run", 70 + i * step, length);
+    refused_map_own_write("map own write 4095+1, too many runs", 24, 4095, 1);
+    map_own_write("map own write 4095+0", 4095, 0);
+    map_own_write(text, 70, last + length - 70);
+    change_window(15 + step);
+    map_fetch("map fetch, front and end fresh", 60, last + length - 40);
+    map_end("-map end");
+}
+
+static void own_writes_refused_by_the_map(void) {
+    refused_map_own_write("map own write 0+1, not open", 21, 0, 1);
+    map_begin("map begin");
+    refused_map_own_write("map own write 0+4097, too long", 4, 0, 4097);
+    map_window_size = DOORCLOVER_MAP_ADDRESSES + 1;
+    refused_map_own_write("map own write 0+1, window too long", 30, 0, 1);
+    map_window_size = DOORCLOVER_MAP_ADDRESSES;
+    refused_map_own_write("map own write 4090+7, outside", 9, 4090, 7);
+    refused_map_own_write("map own write 2^64-1+2, outside", 9, SIZE_MAX, 2);
+    values[500] = 1;
+    refused_map_own_write("map own write 0+8, broken map", 20, 0, 8);
+    values[500] = 0;
+    map_end("map end");
+}
+
+/* Some calls of each kind of fetch and own write: enough to tell a wrong one. */
 static void few(void) {
     begin("begin 3", 3);
     fetch("fetch 3 1001+17", 3, 1001, 17);
     fetch("fetch 3 1001+17 again", 3, 1001, 17);
     fetch("fetch 3 1010+17, front held", 3, 1010, 17);
     refused_fetch("fetch 6 1001+17, not open", 21, 6, 1001, 17);
+    own_write("own write 3 2001+17, none held", 3, 2001, 17);
+    own_write("own write 3 1001+17, all held", 3, 1001, 17);
+    own_write("own write 3 2010+17, front held", 3, 2010, 17);
+    refused_own_write("own write 6 1001+17, not open", 21, 6, 1001, 17);
     end("end 3", 3);
     map_begin("map begin");
     map_fetch("map fetch 1001+17", 1001, 17);
     map_fetch("map fetch 1001+17 again", 1001, 17);
     map_fetch("map fetch 1010+17, front held", 1010, 17);
     refused_map_fetch("map fetch 1001+4097, too long", 4, 1001, 4097);
+    map_own_write("map own write 2001+17, none held", 2001, 17);
+    map_own_write("map own write 1001+17, all held", 1001, 17);
+    map_own_write("map own write 2010+17, front held", 2010, 17);
+    refused_map_own_write("map own write 1001+4097, too long", 4, 1001, 4097);
     map_end("map end");
 }
 
@@ -407,7 +576,6 @@ int main(int argc, char **argv) {
     room("values", values_room, sizeof values_room);
     room("destination", destination_room, sizeof destination_room);
     printf("marker %zu\n", (size_t)&marker);
-    for (size_t i = 0; i < sizeof given; i++) given[i] = (uint8_t)(7 * i + 1);
     for (size_t i = 0; i < DOORCLOVER_STATE_WORDS; i++) broken.words[i] = 65535;
     doorclover_fresh(&whole);
     doorclover_map_fresh(&map_open, map_words, values);
@@ -420,7 +588,10 @@ int main(int argc, char **argv) {
     overlapping();
     many_records();
     refused();
-    writes();
+    host_writes();
+    own_writes();
+    own_writes_of_many();
+    refused_own_writes();
     ends();
     of_the_map();
     many_runs("map fetch, 1 held and 1 not by turns", 1, 2);
@@ -429,5 +600,9 @@ int main(int argc, char **argv) {
     many_runs("map fetch, 37 held and 24 not by turns", 37, 61);
     many_runs("map fetch, 60 held and 2 not by turns", 60, 62);
     refused_by_the_map();
+    own_writes_of_the_map();
+    own_writes_of_many_runs("map own write, 1 held and 1 not by turns", 1, 2);
+    own_writes_of_many_runs("map own write, 37 held and 24 not", 37, 61);
+    own_writes_refused_by_the_map();
     return 0;
 }

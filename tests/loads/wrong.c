@@ -1,12 +1,25 @@
 /*
- * Fetches that are wrong, one for each value of WRONG, and those of the byte map, one for each value of WRONG_MAP; 0 is a right
- * one. The driver's calls are led here (ld --wrap), so that it is seen that the count tells them. All deliver the right bytes and
- * give the right reply.
+ * Fetches that are wrong, one for each value of WRONG, and those of the byte map, one for each value of WRONG_MAP; own writes that are
+ * wrong, by WRONG_OWN and WRONG_MAP_OWN. 0 is a right one, and what is not given is 0. The driver's calls are led here (ld --wrap), so
+ * that it is seen that the count tells them. All deliver and hold the right bytes and give the right reply.
  */
 #include <stdbool.h>
 #include <stdint.h>
 
 #include "doorclover.h"
+
+#ifndef WRONG
+#define WRONG 0
+#endif
+#ifndef WRONG_MAP
+#define WRONG_MAP 0
+#endif
+#ifndef WRONG_OWN
+#define WRONG_OWN 0
+#endif
+#ifndef WRONG_MAP_OWN
+#define WRONG_MAP_OWN 0
+#endif
 
 #define ARGUMENTS                                                                                                              \
     doorclover_state *state, uint8_t *store, size_t store_size, const uint8_t *window, size_t window_size, uint8_t *destination, \
@@ -16,15 +29,32 @@
     const uint64_t *open, uint64_t *words, uint8_t *values, const uint8_t *window, size_t window_size, uint8_t *destination, \
         size_t destination_size, size_t address, size_t length
 #define MAP_GIVEN open, words, values, window, window_size, destination, destination_size, address, length
+#define OWN_ARGUMENTS                                                                                                 \
+    doorclover_state *state, uint8_t *store, size_t store_size, uint8_t *window, size_t window_size, size_t command, \
+        size_t address, const uint8_t *bytes, size_t size
+#define OWN_GIVEN state, store, store_size, window, window_size, command, address, bytes, size
+#define MAP_OWN_ARGUMENTS                                                                                        \
+    const uint64_t *open, uint64_t *words, uint8_t *values, uint8_t *window, size_t window_size, size_t address, \
+        const uint8_t *bytes, size_t size
+#define MAP_OWN_GIVEN open, words, values, window, window_size, address, bytes, size
 
 doorclover_fetched __real_doorclover_fetch(ARGUMENTS);
 doorclover_fetched __wrap_doorclover_fetch(ARGUMENTS);
 doorclover_fetched __real_doorclover_map_fetch(MAP_ARGUMENTS);
 doorclover_fetched __wrap_doorclover_map_fetch(MAP_ARGUMENTS);
+doorclover_written __real_doorclover_own_write(OWN_ARGUMENTS);
+doorclover_written __wrap_doorclover_own_write(OWN_ARGUMENTS);
+doorclover_written __real_doorclover_map_own_write(MAP_OWN_ARGUMENTS);
+doorclover_written __wrap_doorclover_map_own_write(MAP_OWN_ARGUMENTS);
 
 /* Loads a byte, and the compiler leaves it in. */
 static void load(const uint8_t *byte) {
     (void)*(const volatile uint8_t *)byte;
+}
+
+/* Stores a byte, and the compiler leaves it in. */
+static void store_to(uint8_t *byte, uint8_t value) {
+    *(volatile uint8_t *)byte = value;
 }
 
 /* What is wrong behind a fetch; it may not touch the byte that is astray. */
@@ -45,13 +75,35 @@ static void go_wrong(int wrong, doorclover_fetched r, const uint8_t *window, con
         if (done) load(destination + length - 1);
         break;
     case 5: /* the window is stored to */
-        if (done) *(volatile uint8_t *)(uintptr_t)(window + address) = 0;
+        if (done) store_to((uint8_t *)(uintptr_t)(window + address), 0);
         break;
     case 6: /* a refused fetch */
         if (r.status != 0) load(window);
         break;
     case 7: /* another command's part of the store, or what lies behind the values */
         if (done) load(astray);
+        break;
+    }
+}
+
+/* What is wrong behind an own write. */
+static void go_wrong_own(int wrong, doorclover_written r, uint8_t *window, size_t address, const uint8_t *bytes, size_t size) {
+    bool done = r.status == 0 && size > 0;
+    switch (wrong) {
+    case 1: /* its bytes are read back from the window */
+        for (size_t i = 0; done && i < size; i++) load(window + address + i);
+        break;
+    case 2: /* a byte a second time */
+        if (done) store_to(window + address, bytes[0]);
+        break;
+    case 3: /* the byte behind the span */
+        if (done) store_to(window + address + size, 0);
+        break;
+    case 4: /* a refused own write loads */
+        if (r.status != 0) load(window);
+        break;
+    case 5: /* a refused own write stores */
+        if (r.status != 0) store_to(window, 0);
         break;
     }
 }
@@ -65,5 +117,17 @@ doorclover_fetched __wrap_doorclover_fetch(ARGUMENTS) {
 doorclover_fetched __wrap_doorclover_map_fetch(MAP_ARGUMENTS) {
     doorclover_fetched r = __real_doorclover_map_fetch(MAP_GIVEN);
     go_wrong(WRONG_MAP, r, window, destination, address, length, values + DOORCLOVER_MAP_ADDRESSES);
+    return r;
+}
+
+doorclover_written __wrap_doorclover_own_write(OWN_ARGUMENTS) {
+    doorclover_written r = __real_doorclover_own_write(OWN_GIVEN);
+    go_wrong_own(WRONG_OWN, r, window, address, bytes, size);
+    return r;
+}
+
+doorclover_written __wrap_doorclover_map_own_write(MAP_OWN_ARGUMENTS) {
+    doorclover_written r = __real_doorclover_map_own_write(MAP_OWN_GIVEN);
+    go_wrong_own(WRONG_MAP_OWN, r, window, address, bytes, size);
     return r;
 }

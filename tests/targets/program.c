@@ -1,7 +1,8 @@
 /*
- * A program without a C library that links the archive: a retire list whose count the host changes after it was checked, the same
- * with the byte map, and then calls of all kinds with made numbers, of which every answer and every buffer goes into a sum. The sums
- * are the same on every target. Its status is 0 if the bytes and the replies of the first part are right.
+ * A program without a C library that links the archive: a retire list whose count the host changes after it was checked, a status
+ * word that a command writes and reads back, the same two with the byte map, and then calls of all kinds with made numbers, of which
+ * every answer and every buffer goes into a sum. The sums are the same on every target. Its status is 0 if the bytes and the replies
+ * of the first part are right.
  */
 #include "doorclover.h"
 #include "machine.h"
@@ -61,6 +62,51 @@ static void byte_map(void) {
     check(map.open == 0 && map.words[0] == 0 && map.words[1] == 0 && map.values[62] == 0, "the map after its end");
 }
 
+static const uint8_t status_word[] = {0xa1, 0xa2, 0xa3, 0xa4};
+
+/* Is the status word delivered, behind a byte that the host had? */
+static int read_back(doorclover_fetched r) {
+    int same = r.status == 0 && r.fresh == 0 && r.replayed == 5 && destination[0] == 7;
+    for (size_t i = 0; i < sizeof status_word; i++) same &= destination[1 + i] == status_word[i];
+    return same;
+}
+
+/* A command writes a status word, two bytes of which it has fetched, and reads it back, though the host puts other bytes there. */
+static void own_write(void) {
+    memset(window, 7, 256);
+    check(doorclover_begin(&state, store, sizeof store, 3).status == 0, "begin of the status word");
+    doorclover_fetched r =
+        doorclover_fetch(&state, store, sizeof store, window, sizeof window, destination, sizeof destination, 3, 62, 3);
+    check(r.status == 0 && r.fresh == 3, "fetch before the status word");
+    doorclover_written w = doorclover_own_write(&state, store, sizeof store, window, sizeof window, 3, 63, status_word, 4);
+    check(w.status == 0 && w.bytes == 4 && w.fresh == 2 && window[63] == 0xa1 && window[66] == 0xa4, "status word");
+    memset(window, 9, 256);
+    r = doorclover_fetch(&state, store, sizeof store, window, sizeof window, destination, sizeof destination, 3, 62, 5);
+    check(read_back(r), "fetch of the status word");
+    w = doorclover_own_write(&state, store, sizeof store - 1, window, sizeof window, 3, 63, status_word, 4);
+    check(w.status == DOORCLOVER_STORE_WRONG_SIZE && w.bytes == 0 && w.fresh == 0 && window[63] == 9, "own write with a shorter store");
+    doorclover_ended e = doorclover_end(&state, store, sizeof store, 3);
+    check(e.status == 0 && e.records == 1 && e.bytes == 5, "end of the status word");
+}
+
+/* The same with the byte map, over the edge of a word. */
+static void map_own_write(void) {
+    memset(window, 7, 256);
+    check(doorclover_map_begin(&map.open, map.words, map.values).status == 0, "begin of the map's status word");
+    doorclover_fetched r =
+        doorclover_map_fetch(&map.open, map.words, map.values, window, 4096, destination, sizeof destination, 62, 3);
+    check(r.status == 0 && r.fresh == 3, "fetch before the map's status word");
+    doorclover_written w = doorclover_map_own_write(&map.open, map.words, map.values, window, 4096, 63, status_word, 4);
+    check(w.status == 0 && w.bytes == 4 && w.fresh == 2 && window[63] == 0xa1 && window[66] == 0xa4, "the map's status word");
+    memset(window, 9, 256);
+    r = doorclover_map_fetch(&map.open, map.words, map.values, window, 4096, destination, sizeof destination, 62, 5);
+    check(read_back(r), "fetch of the map's status word");
+    w = doorclover_map_own_write(&map.open, map.words, map.values, window, 4097, 4097, status_word, 4);
+    check(w.status == DOORCLOVER_WINDOW_BEYOND_MAP && w.bytes == 0 && w.fresh == 0, "own write of the map with a longer window");
+    doorclover_ended e = doorclover_map_end(&map.open, map.words, map.values);
+    check(e.status == 0 && e.records == 1 && e.bytes == 5, "end of the map's status word");
+}
+
 /* The worked example of the log. */
 static void journal(void) {
     static const uint8_t frames[] = {0x08, 0, 0, 0, 0, 0x60, 0, 0x40, 0, 0x80, 0x61, 0x62, 0x63, 0x64, 0x28, 0, 0x40, 0, 0x80,
@@ -109,14 +155,23 @@ static void fetch(size_t command, size_t address, size_t length) {
     add_number(r.replayed);
 }
 
-static void write(size_t command, size_t address, size_t length) {
+/* Makes the bytes of a write, no more than there is room for, and returns how many. */
+static size_t make_bytes(size_t length) {
     if (length > sizeof bytes) length = sizeof bytes;
     for (size_t i = 0; i < length; i++) bytes[i] = (uint8_t)made(256);
-    doorclover_written r =
-        made(2) == 0 ? doorclover_host_write(window, sizeof window, address, bytes, length)
-                     : doorclover_own_write(&state, store, sizeof store, window, sizeof window, command, address, bytes, length);
+    return length;
+}
+
+static void add_written(doorclover_written r) {
     add_number(r.status);
     add_number(r.bytes);
+    add_number(r.fresh);
+}
+
+static void write(size_t command, size_t address, size_t length) {
+    size_t size = make_bytes(length);
+    if (made(2) == 0) add_written(doorclover_host_write(window, sizeof window, address, bytes, size));
+    else add_written(doorclover_own_write(&state, store, sizeof store, window, sizeof window, command, address, bytes, size));
 }
 
 static void frame(size_t command, size_t address, size_t length) {
@@ -144,6 +199,11 @@ static void map_fetch(size_t address, size_t length) {
     add_number(r.replayed);
 }
 
+static void map_write(size_t address, size_t length) {
+    size_t size = make_bytes(length), window_size = made(20) == 0 ? 4090 + made(9) : 4096;
+    add_written(doorclover_map_own_write(&map.open, map.words, map.values, window, window_size, address, bytes, size));
+}
+
 /* Half of the fetches are of few bytes anywhere, so that there come to be many runs. */
 static void map_call(size_t address, size_t length) {
     size_t kind = made(120);
@@ -154,6 +214,8 @@ static void map_call(size_t address, size_t length) {
         add_number(r.status);
         add_number(r.records);
         add_number(r.bytes);
+    } else if (kind % 5 == 0) {
+        map_write(address, length);
     } else if (kind % 2 == 0) {
         map_fetch(made(4096), made(3));
     } else {
@@ -243,7 +305,9 @@ static void made_calls(void) {
 
 int run(void) {
     retire_list();
+    own_write();
     byte_map();
+    map_own_write();
     journal();
     made_calls();
     put(wrong == 0 ? "right\n" : "WRONG\n");

@@ -185,7 +185,7 @@ static bool setting(void) {
     } while (0)
 
 /* Makes the call of the line if it is one of the byte map, and returns how many numbers its answer has; else -1. */
-static int map_call(uint64_t *answer) {
+static int map_call(uint64_t *answer, uint64_t seed) {
     const char *name = words[0];
     doorclover_map *map = &ground.map;
     uint64_t a, n;
@@ -202,6 +202,12 @@ static int map_call(uint64_t *answer) {
         span(&a, &n);
         doorclover_fetched r = doorclover_map_fetch(&map->open, map->words, map->values, LENT(WINDOW), LENT(DESTINATION), a, n);
         ANSWER(r.status, r.fresh, r.replayed);
+    }
+    if (strcmp(name, "map-own") == 0) {
+        span(&a, &n);
+        make_bytes(data, n, seed);
+        doorclover_written r = doorclover_map_own_write(&map->open, map->words, map->values, LENT(WINDOW), a, data, n);
+        ANSWER(r.status, r.bytes, r.fresh);
     }
     return -1;
 }
@@ -229,7 +235,7 @@ static int call(uint64_t *answer, uint64_t seed) {
         span(&a, &n);
         make_bytes(data, n, seed);
         doorclover_written r = doorclover_host_write(LENT(WINDOW), a, data, n);
-        ANSWER(r.status, r.bytes);
+        ANSWER(r.status, r.bytes, r.fresh);
     }
     if (strcmp(name, "write") == 0) {
         uint64_t kind = number();
@@ -240,7 +246,7 @@ static int call(uint64_t *answer, uint64_t seed) {
         doorclover_framed r = doorclover_frame_write(LENT(OUTPUT), kind, c, a, n, data, size);
         ANSWER(r.status, r.length);
     }
-    if (strncmp(name, "map-", 4) == 0) return map_call(answer);
+    if (strncmp(name, "map-", 4) == 0) return map_call(answer, seed);
     c = number();
     if (strcmp(name, "begin") == 0) ANSWER(doorclover_begin(state, LENT(STORE), c).status);
     if (strcmp(name, "end") == 0) {
@@ -259,7 +265,7 @@ static int call(uint64_t *answer, uint64_t seed) {
     if (strcmp(name, "own") == 0) {
         make_bytes(data, n, seed);
         doorclover_written r = doorclover_own_write(state, LENT(STORE), LENT(WINDOW), c, a, data, n);
-        ANSWER(r.status, r.bytes);
+        ANSWER(r.status, r.bytes, r.fresh);
     }
     return -1;
 }

@@ -1,7 +1,9 @@
 //! For each command a bit for each address of the window, and a shadow of the
 //! window with the bytes of the addresses whose bit is set.
 
-use crate::COMMANDS;
+use std::ops::Range;
+
+use crate::{write, COMMANDS};
 
 const BITS: usize = u64::BITS as usize;
 
@@ -50,22 +52,51 @@ impl Bitmap {
     ) -> (usize, usize) {
         let entry = &mut self.commands[command];
         let end = address + destination.len();
-        let mut fresh = 0;
-        let mut at = entry.next(address, end, false);
-        while at < end {
-            let stop = entry.next(at, end, true);
-            entry.shadow[at..stop].copy_from_slice(&window[at..stop]);
-            entry.set(at, stop);
-            fresh += stop - at;
-            at = entry.next(stop, end, false);
-        }
-        entry.held += fresh;
+        let fresh = entry.hold(address, end, |shadow, gap| {
+            shadow[gap.clone()].copy_from_slice(&window[gap]);
+        });
         destination.copy_from_slice(&entry.shadow[address..end]);
         (fresh, destination.len() - fresh)
+    }
+
+    /// Replies how many bytes were written and how many of them are new.
+    pub fn own_write(
+        &mut self,
+        window: &mut [u8],
+        command: usize,
+        address: usize,
+        bytes: &[u8],
+    ) -> (usize, usize) {
+        let entry = &mut self.commands[command];
+        let end = address + write(window, address, bytes);
+        let new = entry.hold(address, end, |_, _| {});
+        entry.shadow[address..end].copy_from_slice(bytes);
+        (bytes.len(), new)
     }
 }
 
 impl Command {
+    /// Sets the bits from one address to another, uses each gap of them that were
+    /// not set, and answers how many those were.
+    fn hold(
+        &mut self,
+        address: usize,
+        end: usize,
+        mut each: impl FnMut(&mut [u8], Range<usize>),
+    ) -> usize {
+        let mut new = 0;
+        let mut at = self.next(address, end, false);
+        while at < end {
+            let stop = self.next(at, end, true);
+            each(&mut self.shadow, at..stop);
+            self.set(at, stop);
+            new += stop - at;
+            at = self.next(stop, end, false);
+        }
+        self.held += new;
+        new
+    }
+
     /// The first address from one on whose bit is as asked, or the end.
     fn next(&self, from: usize, end: usize, bit: bool) -> usize {
         let flip = if bit { 0 } else { u64::MAX };

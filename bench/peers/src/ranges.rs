@@ -4,10 +4,14 @@
 use std::collections::BTreeMap;
 use std::mem::take;
 use std::ops::Bound::{Excluded, Included};
+use std::ops::Range;
 
-use crate::COMMANDS;
+use crate::{write, COMMANDS};
 
 type Held = BTreeMap<usize, Vec<u8>>;
+
+/// One address up to and without another.
+type Span = Range<usize>;
 
 /// All commands.
 #[derive(Default)]
@@ -41,26 +45,50 @@ impl Ranges {
         address: usize,
     ) -> (usize, usize) {
         let length = destination.len();
-        if length == 0 {
-            return (0, 0);
-        }
         let held = &mut self.commands[command];
-        if let Some((start, bytes)) = held.range(..=address).next_back() {
-            if let Some(bytes) = bytes.get(address - start..address - start + length) {
-                destination.copy_from_slice(bytes);
-                return (0, length);
-            }
-        }
-        let fresh = join(held, window, destination, address);
+        let deliver = |span: &mut [u8]| destination.copy_from_slice(span);
+        let fresh = hold(held, window, address..address + length, deliver);
         (fresh, length - fresh)
+    }
+
+    /// Replies how many bytes were written and how many of them are new.
+    pub fn own_write(
+        &mut self,
+        window: &mut [u8],
+        command: usize,
+        address: usize,
+        bytes: &[u8],
+    ) -> (usize, usize) {
+        let length = write(window, address, bytes);
+        let held = &mut self.commands[command];
+        let put = |span: &mut [u8]| span.copy_from_slice(bytes);
+        (length, hold(held, window, address..address + length, put))
     }
 }
 
-/// Makes one range of a span and all that it meets, and delivers the span from
-/// it. The lowest range grows where it stands. Answers how many bytes of the
-/// span are fresh.
-fn join(held: &mut Held, window: &[u8], destination: &mut [u8], address: usize) -> usize {
-    let end = address + destination.len();
+/// Uses the held bytes of a span, of which those that were not held come from the
+/// window. Answers how many these are.
+fn hold(held: &mut Held, window: &[u8], span: Span, then: impl FnOnce(&mut [u8])) -> usize {
+    if span.is_empty() {
+        return 0;
+    }
+    if let Some((start, bytes)) = held.range_mut(..=span.start).next_back() {
+        if let Some(bytes) = bytes.get_mut(span.start - start..span.end - start) {
+            then(bytes);
+            return 0;
+        }
+    }
+    join(held, window, span, then)
+}
+
+/// Makes one range of a span and all that it meets, and uses the span in it. The
+/// lowest range grows where it stands. Answers how many bytes of the span were
+/// not held.
+fn join(held: &mut Held, window: &[u8], span: Span, then: impl FnOnce(&mut [u8])) -> usize {
+    let Span {
+        start: address,
+        end,
+    } = span;
     let (low, mut joined) = match held.range_mut(..=address).next_back() {
         Some((start, bytes)) if start + bytes.len() >= address => (*start, take(bytes)),
         _ => (address, Vec::with_capacity(end - address)),
@@ -79,7 +107,7 @@ fn join(held: &mut Held, window: &[u8], destination: &mut [u8], address: usize) 
     if low + joined.len() < end {
         add(&mut joined, end);
     }
-    destination.copy_from_slice(&joined[address - low..][..destination.len()]);
+    then(&mut joined[address - low..end - low]);
     held.insert(low, joined);
     fresh
 }

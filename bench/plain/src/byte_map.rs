@@ -87,9 +87,43 @@ impl<const CHECKED: bool> ByteMap<CHECKED> {
         if length == 0 {
             return Ok((0, 0));
         }
-        let fresh = self.hold(window, address, address + length, runs)?;
-        destination[..length].copy_from_slice(&self.values[address..][..length]);
+        let (from, to) = (address, address + length);
+        let fresh = self.new_ones(from, to, runs)?;
+        if fresh == length {
+            self.values[from..to].copy_from_slice(&window[from..to]);
+            self.set(from, to);
+        } else if fresh > 0 {
+            self.fill_gaps(window, from, to);
+            self.set(from, to);
+        }
+        destination[..length].copy_from_slice(&self.values[from..to]);
         Ok((fresh, length - fresh))
+    }
+
+    /// Replies how many bytes were written and how many of them are new.
+    #[inline(never)]
+    pub fn own_write(
+        &mut self,
+        window: &mut [u8],
+        address: usize,
+        bytes: &[u8],
+    ) -> Result<Counts, u8> {
+        refuse(4, bytes.len() > TRANSFER)?;
+        refuse(30, window.len() > ADDRESSES)?;
+        refuse(9, outside(window, address, bytes.len()))?;
+        let runs = self.check()?;
+        refuse(21, self.open == 0)?;
+        if bytes.is_empty() {
+            return Ok((0, 0));
+        }
+        let (from, to) = (address, address + bytes.len());
+        let new = self.new_ones(from, to, runs)?;
+        if new > 0 {
+            self.set(from, to);
+        }
+        self.values[from..to].copy_from_slice(bytes);
+        window[from..to].copy_from_slice(bytes);
+        Ok((bytes.len(), new))
     }
 
     /// The number of runs, if it has not been counted already.
@@ -97,32 +131,23 @@ impl<const CHECKED: bool> ByteMap<CHECKED> {
         counted.unwrap_or_else(|| runs(&self.words))
     }
 
-    /// Holds one address or more, and answers how many of them are fresh. The
-    /// number of runs may be known; there is one more only where the span neither
-    /// shares an address with a run nor touches one.
-    fn hold(
-        &mut self,
-        window: &[u8],
-        from: usize,
-        to: usize,
-        runs: Option<usize>,
-    ) -> Result<usize, u8> {
+    /// How many of one address or more are not held. The number of runs may be
+    /// known; there is one more only where the span neither shares an address with
+    /// a run nor touches one.
+    fn new_ones(&self, from: usize, to: usize, runs: Option<usize>) -> Result<usize, u8> {
         let held: u32 = masks(from, to)
             .map(|(place, mask)| (self.words[place] & mask).count_ones())
             .sum();
-        let fresh = to - from - held as usize;
-        if fresh == 0 {
-            return Ok(0);
-        }
         if held == 0 {
             let touches = self.is_held(to) || from > 0 && self.is_held(from - 1);
             refuse(24, !touches && self.runs(runs) >= RECORDS)?;
-            self.values[from..to].copy_from_slice(&window[from..to]);
-        } else {
-            self.fill_gaps(window, from, to);
         }
+        Ok(to - from - held as usize)
+    }
+
+    /// Sets the bits of one address or more.
+    fn set(&mut self, from: usize, to: usize) {
         masks(from, to).for_each(|(place, mask)| self.words[place] |= mask);
-        Ok(fresh)
     }
 
     /// Whether an address is held; the one behind the last is not.

@@ -91,21 +91,32 @@ impl<const CHECKED: bool> Cache<CHECKED> {
         Ok(counts)
     }
 
+    /// Replies how many bytes were written and how many of them are new.
     #[inline(never)]
     pub fn own_write(
-        &self,
+        &mut self,
+        store: &mut [u8],
         window: &mut [u8],
         command: usize,
         address: usize,
         bytes: &[u8],
-    ) -> Result<usize, u8> {
+    ) -> Result<Counts, u8> {
         refuse(4, bytes.len() > TRANSFER)?;
         refuse(6, command >= COMMANDS)?;
         refuse(7, window.len() > WINDOW)?;
+        refuse(8, store.len() != STORE)?;
         refuse(9, outside(window, address, bytes.len()))?;
         self.check()?;
         self.opened(command)?;
-        host_write(window, address, bytes)
+        if bytes.is_empty() {
+            return Ok((0, 0));
+        }
+        let entry = &mut self.state.commands[command];
+        let part = part(store, command);
+        let (place, new) = hold(entry, part, address, address + bytes.len(), |_, _| {})?;
+        part[place..][..bytes.len()].copy_from_slice(bytes);
+        window[address..][..bytes.len()].copy_from_slice(bytes);
+        Ok((bytes.len(), new))
     }
 
     /// A record of an open command, counted from 0.
@@ -143,45 +154,46 @@ impl<const CHECKED: bool> Cache<CHECKED> {
             return Ok((0, 0));
         }
         let entry = &mut self.state.commands[command];
-        let destination = &mut destination[..length];
-        let fresh = fetch_span(entry, part(store, command), window, destination, address)?;
+        let part = part(store, command);
+        let read = |gap: &mut [u8], from: usize| {
+            gap.copy_from_slice(&window[from..][..gap.len()]);
+        };
+        let (place, fresh) = hold(entry, part, address, address + length, read)?;
+        destination[..length].copy_from_slice(&part[place..][..length]);
         Ok((fresh, length - fresh))
     }
 }
 
-/// Holds a span of a byte or more and fills the destination with it, and
-/// answers how many of its bytes are fresh.
-fn fetch_span(
+/// Holds a span of a byte or more, whose gaps are filled by address, and answers
+/// where in the part it stands and how many of its bytes are new.
+fn hold(
     entry: &mut Command,
     part: &mut [u8],
-    window: &[u8],
-    destination: &mut [u8],
     address: usize,
-) -> Result<usize, u8> {
-    let stop = address + destination.len();
+    stop: usize,
+    fill: impl FnMut(&mut [u8], usize),
+) -> Result<Counts, u8> {
     let records = entry.records();
     let (first, below) = passed(records, address);
-    let (place, fresh) = match records.get(first) {
+    match records.get(first) {
         Some(record) if start(*record) <= address && stop <= end(*record) => {
-            (below + address - start(*record), 0)
+            Ok((below + address - start(*record), 0))
         }
         _ => {
             let meeting = Meeting::of(records, first, address, stop);
-            join(entry, part, window, &meeting, below)?;
-            (below + address - meeting.low, meeting.fresh())
+            join(entry, part, &meeting, below, fill)?;
+            Ok((below + address - meeting.low, meeting.fresh()))
         }
-    };
-    destination.copy_from_slice(&part[place..][..destination.len()]);
-    Ok(fresh)
+    }
 }
 
 /// Makes one record of a span and those that it meets.
 fn join(
     entry: &mut Command,
     part: &mut [u8],
-    window: &[u8],
     meeting: &Meeting,
     below: usize,
+    fill: impl FnMut(&mut [u8], usize),
 ) -> Result<(), u8> {
     let records = entry.records();
     let behind = held(&records[meeting.last..]);
@@ -190,7 +202,7 @@ fn join(
     refuse(24, records.len() + 1 - (last - first) > RECORDS)?;
     if meeting.fresh() > 0 {
         let part = &mut part[below..][..meeting.length() + behind];
-        meeting.fill(part, &records[first..last], behind, window);
+        meeting.spread(part, &records[first..last], behind, fill);
     }
     entry.splice(first, last, meeting.record());
     Ok(())

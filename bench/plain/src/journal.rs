@@ -91,8 +91,8 @@ fn call<const CHECKED: bool>(
         b'E' => cache.end(lent.store, command).map(Reply::Counts),
         b'H' => host_write(lent.window, frame.address, frame.data).map(Reply::Count),
         b'W' => cache
-            .own_write(lent.window, command, frame.address, frame.data)
-            .map(Reply::Count),
+            .own_write(lent.store, lent.window, command, frame.address, frame.data)
+            .map(Reply::Counts),
         _ => cache
             .fetch(
                 lent.store,

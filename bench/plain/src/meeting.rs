@@ -59,9 +59,15 @@ impl Meeting {
     }
 
     /// Moves what stands behind up, and puts the bytes of the joined record
-    /// side by side, from the last record met down. The part starts where the
-    /// joined record does.
-    pub fn fill(&self, part: &mut [u8], met: &[Record], behind: usize, window: &[u8]) {
+    /// side by side, from the last record met down; each gap between them is
+    /// filled by its address. The part starts where the joined record does.
+    pub fn spread(
+        &self,
+        part: &mut [u8],
+        met: &[Record],
+        behind: usize,
+        mut fill: impl FnMut(&mut [u8], usize),
+    ) {
         let mut old = self.held;
         let mut new = self.length();
         part.copy_within(old..old + behind, new);
@@ -69,7 +75,9 @@ impl Meeting {
         for record in met.iter().rev() {
             let (from, to) = (start(*record), end(*record));
             new -= top - to;
-            read(&mut part[new..], window, to, top);
+            if to < top {
+                fill(&mut part[new..][..top - to], to);
+            }
             old -= length(*record);
             new -= length(*record);
             if old < new {
@@ -77,14 +85,8 @@ impl Meeting {
             }
             top = from;
         }
-        read(part, window, self.low, top);
-    }
-}
-
-/// Copies bytes of the window, if there are any to copy: a record may end
-/// behind a window that has become shorter.
-fn read(part: &mut [u8], window: &[u8], from: usize, to: usize) {
-    if from < to {
-        part[..to - from].copy_from_slice(&window[from..to]);
+        if self.low < top {
+            fill(&mut part[..top - self.low], self.low);
+        }
     }
 }

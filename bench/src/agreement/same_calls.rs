@@ -266,12 +266,12 @@ fn any_call(source: &mut Source) -> Call {
         0 => Call::End { command },
         1..=5 => Call::Begin { command },
         6..=7 => Call::HostWrite { address, length },
-        8..=9 => Call::OwnWrite {
+        8..=13 => Call::OwnWrite {
             command,
             address,
             length,
         },
-        10..=11 => Call::Show {
+        14..=15 => Call::Show {
             command,
             index: source.numbers.below(20) as usize,
         },

@@ -1,5 +1,6 @@
-//! Lists of calls of the byte map get the same answers and leave the same parts
-//! and destinations, on any maps and on windows and destinations of any length.
+//! Lists of calls of the byte map get the same answers and leave the same parts,
+//! windows and destinations, on any maps and on windows and destinations of any
+//! length.
 //! The plain map without checks makes the calls on maps that hold together. From
 //! the fresh map, the record engine with one command answers and delivers the
 //! same in windows of at most 4,096 bytes.
@@ -54,6 +55,7 @@ pub fn difference(cases: &[Case]) -> Option<String> {
 enum Call {
     Begin,
     Fetch { address: usize, length: usize },
+    OwnWrite { address: usize, length: usize },
     End,
 }
 
@@ -66,29 +68,38 @@ struct Scene {
     memory: Memory,
 }
 
-/// A map with its destination.
+/// A map with its buffers.
 struct Party<M> {
     map: M,
-    destination: Vec<u8>,
+    memory: Memory,
 }
 
 impl<M: Map> Party<M> {
     fn fresh() -> Party<M> {
         Party {
             map: M::fresh(),
-            destination: vec![],
+            memory: Memory::sized(ADDRESSES, 0),
         }
     }
 
-    fn make(&mut self, window: &[u8], call: Call) -> Answer {
+    fn make(&mut self, call: Call) -> Answer {
         match call {
             Call::Begin => self.map.begin().into(),
             Call::End => self.map.end().into(),
             Call::Fetch { address, length } => {
-                let destination = &mut self.destination;
+                let (window, destination) = (&self.memory.window, &mut self.memory.destination);
                 self.map.fetch(window, destination, address, length).into()
             }
+            Call::OwnWrite { address, length } => {
+                let (window, bytes) = self.memory.write(address, length);
+                self.map.own_write(window, address, bytes).into()
+            }
         }
+    }
+
+    /// Whether another has the same parts and buffers.
+    fn is_like<N: Map>(&self, other: &Party<N>) -> bool {
+        self.map.parts() == other.map.parts() && self.memory == other.memory
     }
 }
 
@@ -112,11 +123,11 @@ impl Scene {
             .iter_mut()
             .for_each(|byte| *byte ^= number);
         for lent in [
-            &mut self.proved.destination,
-            &mut self.checked.destination,
-            &mut self.unchecked.destination,
+            &mut self.proved.memory,
+            &mut self.checked.memory,
+            &mut self.unchecked.memory,
         ] {
-            *lent = self.memory.destination.to_vec();
+            lent.clone_from(&self.memory);
         }
     }
 
@@ -138,16 +149,11 @@ impl Scene {
     /// Makes a call on the two maps that check everything, and on the third if
     /// these do not find the map broken. Answers the same, or tells what is not.
     fn step(&mut self, call: Call) -> Result<Answer, String> {
-        let window = &self.memory.window;
-        let answer = self.proved.make(window, call);
-        let mut same = self.checked.make(window, call) == answer
-            && self.checked.map.parts() == self.proved.map
-            && self.checked.destination == self.proved.destination;
+        let answer = self.proved.make(call);
+        let mut same = self.checked.make(call) == answer && self.checked.is_like(&self.proved);
         if answer != Answer::Refused(20) {
-            same = same
-                && self.unchecked.make(window, call) == answer
-                && self.unchecked.map.parts() == self.proved.map
-                && self.unchecked.destination == self.proved.destination;
+            same =
+                same && self.unchecked.make(call) == answer && self.unchecked.is_like(&self.proved);
         }
         if same {
             Ok(answer)
@@ -167,8 +173,13 @@ impl Scene {
                 let reply = self.records.fetch(memory, COMMAND, address, length);
                 reply.into()
             }
+            Call::OwnWrite { address, length } => {
+                let (window, bytes) = memory.write(address, length);
+                let reply = self.records.own_write(window, COMMAND, address, bytes);
+                reply.into()
+            }
         };
-        if other == answer && memory.destination[..] == self.proved.destination[..] {
+        if other == answer && *memory == self.proved.memory {
             Ok(answer)
         } else {
             Err(told(call, answer))
@@ -194,6 +205,9 @@ fn of_case(case: &Case) -> Option<String> {
         call::Call::Fetch {
             address, length, ..
         } => Call::Fetch { address, length },
+        call::Call::OwnWrite {
+            address, length, ..
+        } => Call::OwnWrite { address, length },
         _ => unreachable!("{call:?} is no call of the byte map"),
     })
     .find_map(|call| scene.step_beside_records(call).err())
@@ -255,6 +269,7 @@ fn any_call(source: &mut Source) -> Call {
     match source.numbers.below(40) {
         0 => Call::End,
         1..=3 => Call::Begin,
+        4..=11 => Call::OwnWrite { address, length },
         _ => Call::Fetch { address, length },
     }
 }

@@ -175,15 +175,8 @@ fn others() -> Vec<Case> {
     let mut cases = vec![single(Group::Call, "begin", 0, vec![], begin(COMMAND))];
     cases.extend(RECORDS.map(end));
     cases.extend(RECORDS.map(show));
-    for length in LENGTHS {
-        let name = format!("own write, {}", counted(length, "byte"));
-        let write = Call::OwnWrite {
-            command: COMMAND,
-            address: SPAN,
-            length,
-        };
-        cases.push(repeated(Group::Call, &name, length, around(1, 1), write));
-    }
+    cases.extend(LENGTHS.map(written_over));
+    cases.extend(LENGTHS.map(written));
     for length in LENGTHS {
         let name = format!("host write, {}", counted(length, "byte"));
         let write = Call::HostWrite {
@@ -193,6 +186,30 @@ fn others() -> Vec<Case> {
         cases.push(repeated(Group::Call, &name, length, vec![], write));
     }
     cases
+}
+
+fn own_write(length: usize) -> Call {
+    Call::OwnWrite {
+        command: COMMAND,
+        address: SPAN,
+        length,
+    }
+}
+
+/// An own write of what is a record already.
+fn written_over(length: usize) -> Case {
+    let write = own_write(fitting(length, 1));
+    let mut before = around(1, length);
+    before.push(write);
+    let name = format!("own write, {} held", counted(length, "byte"));
+    repeated(Group::Call, &name, length, before, write)
+}
+
+/// An own write that becomes one more record.
+fn written(length: usize) -> Case {
+    let write = own_write(fitting(length, 1));
+    let name = format!("own write, {} new", counted(length, "byte"));
+    single(Group::Call, &name, length, around(1, length), write)
 }
 
 fn end(records: usize) -> Case {

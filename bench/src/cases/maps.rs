@@ -21,6 +21,8 @@ pub fn all() -> Vec<Case> {
     cases.extend([0, 1, RUNS].map(check));
     cases.extend(SPANS.map(replayed));
     cases.extend(SPANS.map(fresh));
+    cases.extend(SPANS.map(written_over));
+    cases.extend(SPANS.map(written));
     cases.push(eight_loads());
     cases.push(case("begin", 1, vec![], vec![BEGIN]));
     cases.extend([1, RUNS].map(end));
@@ -63,6 +65,27 @@ fn replayed((address, length): (usize, usize)) -> Case {
 fn fresh((address, length): (usize, usize)) -> Case {
     let name = format!("fresh, {}", counted(length, "byte"));
     case(&name, 1, vec![BEGIN], vec![fetch(address, length)])
+}
+
+fn own_write((address, length): (usize, usize)) -> Call {
+    Call::OwnWrite {
+        command: COMMAND,
+        address,
+        length,
+    }
+}
+
+/// All that is held is written over.
+fn written_over(span: (usize, usize)) -> Case {
+    let write = own_write(span);
+    let name = format!("own write, {} held", counted(span.1, "byte"));
+    case(&name, REPEATED, vec![BEGIN, write], vec![write])
+}
+
+/// The first own write behind a begin.
+fn written(span: (usize, usize)) -> Case {
+    let name = format!("own write, {} new", counted(span.1, "byte"));
+    case(&name, 1, vec![BEGIN], vec![own_write(span)])
 }
 
 /// A descriptor in eight parts, each of which touches the one before.

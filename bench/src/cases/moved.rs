@@ -1,6 +1,7 @@
 //! How many bytes of payload a case moves: a fresh byte goes into the store and
-//! to the destination, a replayed one to the destination, a written one into
-//! the window.
+//! to the destination, a replayed one to the destination, one that the host
+//! writes into the window, and one that a command writes into the store and the
+//! window.
 
 use crate::answer::Answer;
 use crate::call::{make, Call, Last};
@@ -34,7 +35,8 @@ fn by_calls(before: &[Call], unit: &[Call]) -> usize {
 fn by_call(call: Call, answer: Answer) -> usize {
     match (call, answer) {
         (Call::Fetch { .. }, Answer::Numbers(fresh, replayed)) => 2 * fresh + replayed,
-        (Call::HostWrite { .. } | Call::OwnWrite { .. }, Answer::Numbers(bytes, _)) => bytes,
+        (Call::HostWrite { .. }, Answer::Numbers(bytes, _)) => bytes,
+        (Call::OwnWrite { .. }, Answer::Numbers(bytes, _)) => 2 * bytes,
         _ => 0,
     }
 }
@@ -52,7 +54,8 @@ fn by_line(line: &str) -> usize {
     let number = |place: usize| -> usize { fields[place].parse().unwrap_or(0) };
     match (fields[1], fields[2]) {
         ("F", "ok") => 2 * number(3) + number(4),
-        ("H" | "W", "ok") => number(3),
+        ("H", "ok") => number(3),
+        ("W", "ok") => 2 * number(3),
         _ => 0,
     }
 }

@@ -21,6 +21,7 @@ pub trait Map {
         length: usize,
     ) -> impl Into<Answer>;
     fn end(&mut self) -> impl Into<Answer>;
+    fn own_write(&mut self, window: &mut [u8], address: usize, bytes: &[u8]) -> impl Into<Answer>;
     /// The parts of the map, and a map of other parts.
     fn parts(&self) -> ByteMap;
     fn set_parts(&mut self, parts: &ByteMap);
@@ -51,6 +52,10 @@ impl Map for ByteMap {
 
     fn end(&mut self) -> impl Into<Answer> {
         boundary::map_end(self)
+    }
+
+    fn own_write(&mut self, window: &mut [u8], address: usize, bytes: &[u8]) -> impl Into<Answer> {
+        boundary::map_own_write(self, window, address, bytes)
     }
 
     fn parts(&self) -> ByteMap {
@@ -87,6 +92,10 @@ impl<const CHECKED: bool> Map for Plain<CHECKED> {
 
     fn end(&mut self) -> impl Into<Answer> {
         Plain::end(self)
+    }
+
+    fn own_write(&mut self, window: &mut [u8], address: usize, bytes: &[u8]) -> impl Into<Answer> {
+        Plain::own_write(self, window, address, bytes)
     }
 
     fn parts(&self) -> ByteMap {
@@ -131,6 +140,16 @@ impl<M: Map> Cache for OneCommand<M> {
         let window = &memory.window[..ADDRESSES];
         let destination = &mut memory.destination;
         self.0.fetch(window, destination, address, length)
+    }
+
+    fn own_write(
+        &mut self,
+        window: &mut [u8],
+        _command: usize,
+        address: usize,
+        bytes: &[u8],
+    ) -> impl Into<Answer> {
+        self.0.own_write(&mut window[..ADDRESSES], address, bytes)
     }
 
     fn end(&mut self, _command: usize) -> impl Into<Answer> {

@@ -58,7 +58,8 @@ impl<const CHECKED: bool> Cache for Ordinary<CHECKED> {
         address: usize,
         bytes: &[u8],
     ) -> impl Into<Answer> {
-        self.cache.own_write(window, command, address, bytes)
+        let store = &mut self.store;
+        self.cache.own_write(store, window, command, address, bytes)
     }
 
     fn show(&mut self, command: usize, index: usize) -> impl Into<Answer> {

@@ -1,5 +1,5 @@
 //! What people would write instead, as caches. They know no refusals, and
-//! a write is no more than a copy.
+//! a host write is no more than a copy.
 
 use peers::bitmap::Bitmap;
 use peers::ranges::Ranges;
@@ -30,6 +30,16 @@ impl Cache for Ranges {
     ) -> impl Into<Answer> {
         let destination = &mut memory.destination[..length];
         Ranges::fetch(self, &memory.window, destination, command, address)
+    }
+
+    fn own_write(
+        &mut self,
+        window: &mut [u8],
+        command: usize,
+        address: usize,
+        bytes: &[u8],
+    ) -> impl Into<Answer> {
+        Ranges::own_write(self, window, command, address, bytes)
     }
 
     fn end(&mut self, command: usize) -> impl Into<Answer> {
@@ -64,6 +74,16 @@ impl Cache for Bitmap {
     ) -> impl Into<Answer> {
         let destination = &mut memory.destination[..length];
         Bitmap::fetch(self, &memory.window, destination, command, address)
+    }
+
+    fn own_write(
+        &mut self,
+        window: &mut [u8],
+        command: usize,
+        address: usize,
+        bytes: &[u8],
+    ) -> impl Into<Answer> {
+        Bitmap::own_write(self, window, command, address, bytes)
     }
 
     fn end(&mut self, command: usize) -> impl Into<Answer> {

@@ -1,5 +1,5 @@
--- What the half of fetch that reads and judges says: the checks that need no search, and then what the search of one command's records
--- gives.
+-- What the half of fetch and of own write that reads and judges says: the checks that need no search, and then what the search of one
+-- command's records gives.
 use Prim.Native.Nat.{ℕ, _+_, _≤_, _<_}
 use mathlib.Core.Path.{_≡_}
 use mathlib.Core.List.{[]}

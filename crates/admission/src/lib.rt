@@ -1,3 +1,3 @@
-// The half of fetch that reads and judges: the checks that need no search of the records, and then what a span would bring.
+// The half of fetch and of own write that reads and judges: the checks that need no search of the records, and then what a span would bring.
 pub mod admit;
 pub mod plan;

@@ -6,10 +6,10 @@ use mathlib.Core.Bool.{Bool, true, false, _&&_, _||_}
 use lib.Dec.{leb, eqb}
 use lib.ListN.{length, take, drop}
 use borrow.Author.Tests.{eqb-true}
-use Rattle.octets.specs.Lists.{count, all}
+use Rattle.octets.specs.Lists.{all}
 use Rattle.octets.proofs.Lists.{and-left, and-right}
-use Rattle.state.specs.Limits.{commandLimit, recordLimit, heldLimit, windowLimit, storeSize}
-use Rattle.state.specs.Records.{span, held, total}
+use Rattle.state.specs.Limits.{commandLimit, recordLimit, heldLimit, storeSize}
+use Rattle.state.specs.Records.{held, total}
 use Rattle.state.specs.Runs.{runs}
 use Rattle.state.specs.State.{State, commandOf, recordsIn, recordsOf, isOpen, holds, commandHolds, ascending, isZero}
 use Rattle.state.proofs.Commands.{kept, each-holds}
@@ -19,17 +19,17 @@ use Rattle.bits.proofs.Counts.{count-none}
 use Rattle.bytemap.specs.Map.{Map, isHeld, heldCount, runsOf, fresh, isOpen as isMapOpen}
 use Rattle.bytemap.specs.Runs as bytemap
 use Rattle.cache.specs.Runs.{Call, Machine, start, along, ran, says, after, delivers, destAfter, windowAfter}
-use Rattle.history.specs.Firsts.{memory}
+use Rattle.history.specs.Firsts.{memory, heldSince}
 use Rattle.history.specs.Stores.{phase}
 use Rattle.history.specs.Answers.{openSince}
-use Rattle.history.proofs.Stored.{memory-search, held-known}
+use Rattle.history.proofs.Stored.{memory-held, held-known}
 use Rattle.history.proofs.Tied.{tied-start}
 use Rattle.history.proofs.Answers.{total-told}
 use Rattle.agreement.specs.Agreement.{asCommand, isSmall, Agreement}
 use Rattle.agreement.proofs.Spans.{runs-none}
 use Rattle.agreement.proofs.Follows.{cleared-follows}
-use Rattle.agreement.proofs.Beside.{Beside, held-since, count-all, runs-all, answer-same}
-use Rattle.agreement.proofs.After.{dest-same, delivered-same, beside-after}
+use Rattle.agreement.proofs.Beside.{Beside, held-count, runs-here, answer-same}
+use Rattle.agreement.proofs.After.{dest-same, window-same, delivered-same, beside-after}
 
 -- a closed command has no records
 closed-empty : (s : State) (c : ℕ) → holds s ≡ true → isOpen s c ≡ false → recordsOf s c ≡ []
@@ -52,20 +52,16 @@ module _ {c : ℕ} {m : Map} {j : Machine} (B : Beside c m j) where
   opened-same : isMapOpen m ≡ isOpen (j .state) c
   opened-same = B .follows .same ∙ sym (B .tied .opened c)
 
-  -- the records of an open command are the runs of what it has fetched, and so are those of the map
+  -- the records of an open command are the runs of what it has fetched or written, and so are those of the map
   same-held-open : openSince (B .past) c ≡ true → SameHeld c m j
   same-held-open o =
       let past = B .past in
       let rs = recordsOf (j .state) c in
-      let since = held-since B o in
       let opened = B .tied .opened c ∙ o in
-      let held-same : held rs ≡ isHeld m =
-      fun-ext λ x. held-known j (memory past) (B .tied .sound) c opened x ∙ memory-search past c x ∙ ap (λ (f : ℕ → Bool). f x) since in
+      let held-told : held rs ≡ heldSince past c = fun-ext λ x. held-known j (memory past) (B .tied .sound) c opened x ∙ memory-held past c x in
       record {
-        records = sym (records-runs rs (kept (j .state) c (B .tied .sound .state .whole) .up) ∙ ap runs held-same ∙ runs-all B);
-        bytes =
-            B .follows .ones
-            ∙ sym (total-told (B .tied) c opened ∙ ap (λ (f : ℕ → Bool). count f (span 0 windowLimit)) since ∙ count-all B);
+        records = sym (records-runs rs (kept (j .state) c (B .tied .sound .state .whole) .up) ∙ ap runs held-told ∙ runs-here B o);
+        bytes = B .follows .ones ∙ sym (total-told (B .tied) c opened ∙ held-count B o);
       }
 
   -- closed, neither holds anything
@@ -116,11 +112,6 @@ beside-start : (store : List ℕ) (c : ℕ) → length store ≡ storeSize → B
 unfolding phase
 beside-start store c size = record { past = []; tied = rw size at (tied-start store); follows = cleared-follows 0 }
 
-window-same : (c : ℕ) (m : Map) (j : Machine) (p : bytemap.Call) → bytemap.windowAfter m p ≡ windowAfter j (asCommand c p)
-window-same c m j bytemap.begin = refl
-window-same c m j (bytemap.fetch a n dest window) = refl
-window-same c m j bytemap.end = refl
-
 pub agreement : Agreement
 agreement store c ps size low small =
     let B = beside-start store c size in
@@ -129,7 +120,7 @@ agreement store c ps size low small =
       answers = along-same c low bytemap.says says (λ m j p B h. answer-same B low p h) fresh (start store) ps B small;
       delivered = along-same c low bytemap.delivers delivers (λ m j p B h. delivered-same B low p h) fresh (start store) ps B small;
       destinations = along-same c low bytemap.destAfter destAfter (λ m j p B h. dest-same B low p h) fresh (start store) ps B small;
-      windows = along-same c low bytemap.windowAfter windowAfter (λ m j p B h. window-same c m j p) fresh (start store) ps B small;
+      windows = along-same c low bytemap.windowAfter windowAfter (λ m j p B h. window-same B low p h) fresh (start store) ps B small;
       opened = opened-same then;
       records = same-held then .records;
       bytes = same-held then .bytes;

@@ -1,28 +1,28 @@
--- A byte map that follows a memory: it holds just the addresses that the memory knows, each with the value known there. Begin, fetch and end
--- each leave one that follows.
+-- A byte map that follows a memory: it holds just the addresses that the memory knows, each with the value known there. Begin, fetch, own write
+-- and end each leave one that follows.
 use Prim.Native.Nat.{ℕ, zero, suc, _+_, _≤_, _/_, _%_, _^_}
 use native.Mathlib.Omega.{arith}
 use native.Mathlib.Nat.{zero-div}
-use mathlib.Core.Path.{_≡_, refl, ap, sym, fun-ext, _∙_}
+use mathlib.Core.Path.{_≡_, refl, ap, subst, sym, fun-ext, _∙_}
 use mathlib.Core.List.{List}
-use mathlib.Core.Bool.{Bool, true, false, false≢true, cond, _||_, and-false}
+use mathlib.Core.Bool.{Bool, true, false, false≢true, cond, _||_, or-true, or-false, and-false}
 use lib.Count.{ones}
 use lib.Dec.{leb, ltb, eqb}
-use lib.ListN.{length, getD, replicate, length-map, length-replicate, List·getD-eq-default}
+use lib.ListN.{length, getD, replicate, length-replicate, List·getD-eq-default}
 use borrow.Author.Tests.{le-leb, ltb-true, ltb-false, le-ltb}
 use Rattle.octets.specs.Lists.{count, overwrite}
 use Rattle.octets.proofs.Lists.{both, all-replicate, getD-same}
 use Rattle.octets.proofs.Overwrite.{length-overwrite}
 use Rattle.state.specs.Limits.{recordLimit}
 use Rattle.state.specs.Records.{inSpan, span}
-use Rattle.state.proofs.Places.{length-span}
+use Rattle.store.specs.Store.{from}
 use Rattle.bits.specs.Bits.{wordLimit, mapLimit, bit, isSet, wordsOf, onesOf}
 use Rattle.bits.proofs.Counts.{count-none}
 use Rattle.bits.proofs.Words.{words-set, ones-of-words, length-words}
 use Rattle.bytemap.specs.Map.{Map, isOpen, isHeld, heldCount, runsOf, cleared, isEmpty, holds}
-use Rattle.bytemap.specs.Fetch.{heldThen, runsThen, sees, seen}
-use Rattle.history.specs.Firsts.{Value, none, first, orElse, isKnown, recall}
-use Rattle.bytemap.proofs.Spans.{overwrite-span}
+use Rattle.bytemap.specs.Fetch.{heldThen, runsThen, holding, sees, seen}
+use Rattle.history.specs.Firsts.{Value, none, some, orElse, isKnown, recall}
+use Rattle.bytemap.proofs.Spans.{length-bytes, byte-in, overwritten}
 use Rattle.agreement.proofs.Spans.{all-pass, runs-none}
 
 pub record Follows (m : Map) (opened : Bool) (known : ℕ → Value) : Type 0 where
@@ -45,7 +45,7 @@ module _ {m : Map} {opened : Bool} {known : ℕ → Value} (F : Follows m opened
     where
       go : (v : Value) → (isKnown v || eqb (recall v) 0) ≡ true
       go none = refl
-      go (first u) = refl
+      go (some u) = refl
 
   open-or-empty : (isOpen m || isEmpty m) ≡ true
   open-or-empty = go opened (F .same) (F .empty)
@@ -67,7 +67,7 @@ sees-known {known} F window x = rw (F .held x, F .value x) (go (known x))
   where
     go : (v : Value) → cond (isKnown v) (recall v) (getD window x 0) ≡ recall (orElse v (getD window x 0))
     go none = refl
-    go (first u) = refl
+    go (some u) = refl
 
 -- A cleared map follows a memory that knows nothing.
 
@@ -106,25 +106,20 @@ set-everywhere test none-beyond = fun-ext λ x. go x (ltb x mapLimit) refl
     go x true e = words-set test x (ltb-true x mapLimit e)
     go x false e = let far = ltb-false x mapLimit e in set-beyond test x far ∙ sym (none-beyond x far)
 
--- After a fetch the map follows the memory with the span in it.
+-- Bytes held from an address on, by a fetch or by an own write: the map follows the memory with them in it.
 
-module _ {m : Map} {known : ℕ → Value} (F : Follows m true known) (window dest : List ℕ) (a n : ℕ)
+module _ {m : Map} {known : ℕ → Value} (F : Follows m true known) (a n : ℕ) (bytes : List ℕ) (given : length bytes ≡ n)
     (fits : a + n ≤ mapLimit) (room : length (runsThen m a n) ≤ recordLimit) where
-  abbrev fetchedInto : Map
-  fetchedInto = record { flag = m .flag; words = wordsOf (heldThen m a n); values = overwrite (m .values) a (seen m window a n) }
-
   abbrev knownThen : ℕ → Value
-  knownThen x = cond (inSpan a n x) (orElse (known x) (getD window x 0)) (known x)
+  knownThen x = cond (inSpan a n x) (some (from a bytes x)) (known x)
 
   -- an address is known then exactly if it was or if it is in the span
   known-or-in : (x : ℕ) → heldThen m a n x ≡ isKnown (knownThen x)
   known-or-in x = rw (F .held x) (go (known x) (inSpan a n x))
     where
-      go : (v : Value) (b : Bool) → (isKnown v || b) ≡ isKnown (cond b (orElse v (getD window x 0)) v)
-      go none true = refl
-      go none false = refl
-      go (first u) true = refl
-      go (first u) false = refl
+      go : (v : Value) (b : Bool) → (isKnown v || b) ≡ isKnown (cond b (some (from a bytes x)) v)
+      go v false = or-false (isKnown v)
+      go v true = or-true (isKnown v)
 
   low-then : (x : ℕ) → mapLimit ≤ x → heldThen m a n x ≡ false
   low-then x far = rw (F .held x, F .low x far, le-ltb x (a + n) (omega arith)) (and-false (leb a x))
@@ -132,30 +127,45 @@ module _ {m : Map} {known : ℕ → Value} (F : Follows m true known) (window de
   set-then : isSet (wordsOf (heldThen m a n)) ≡ heldThen m a n
   set-then = set-everywhere (heldThen m a n) low-then
 
-  value-then : (x : ℕ) → getD (fetchedInto .values) x 0 ≡ recall (knownThen x)
-  value-then x =
-      overwrite-span (m .values) (sees m window) a n (omega (arith, F .size)) x
-      ∙ rw (sees-known F window x, F .value x) (go (inSpan a n x))
+  bytes-fit : a + length bytes ≤ length (m .values)
+  bytes-fit = omega (arith, F .size, given)
+
+  value-then : (x : ℕ) → getD (overwrite (m .values) a bytes) x 0 ≡ recall (knownThen x)
+  value-then x = overwritten (m .values) bytes a bytes-fit x ∙ rw (given, F .value x) (go (inSpan a n x))
     where
-      go : (b : Bool) → cond b (recall (orElse (known x) (getD window x 0))) (recall (known x))
-          ≡ recall (cond b (orElse (known x) (getD window x 0)) (known x))
+      go : (b : Bool) → cond b (from a bytes x) (recall (known x)) ≡ recall (cond b (some (from a bytes x)) (known x))
       go true = refl
       go false = refl
 
-  size-then : length (fetchedInto .values) ≡ mapLimit
-  size-then =
-      length-overwrite (m .values) (seen m window a n) a
-      (omega (arith, F .size, length-map (span a n) (sees m window), length-span a n))
-      ∙ F .size
-
-  pub fetch-follows : Follows fetchedInto true knownThen
-  fetch-follows = record {
+  pub hold-follows : Follows (holding m a n bytes) true knownThen
+  hold-follows = record {
     same = F .same;
     held = λ x. ap (λ (f : ℕ → Bool). f x) set-then ∙ known-or-in x;
     low = λ x far. sym (known-or-in x) ∙ low-then x far;
     value = value-then;
-    size = size-then;
+    size = length-overwrite (m .values) bytes a bytes-fit ∙ F .size;
     ones = ones-of-words (heldThen m a n) ∙ ap (λ (f : ℕ → Bool). count f (span 0 mapLimit)) (sym set-then);
     empty = λ e. absurd (false≢true (sym e));
     few = rw set-then room;
   }
+
+-- What a fetch holds at an address is what the memory has there, or else what the window has.
+module _ {m : Map} {known : ℕ → Value} (F : Follows m true known) (window : List ℕ) (a n : ℕ)
+    (fits : a + n ≤ mapLimit) (room : length (runsThen m a n) ≤ recordLimit) where
+  fetched-known : (x : ℕ) → cond (inSpan a n x) (some (from a (seen m window a n) x)) (known x)
+      ≡ cond (inSpan a n x) (orElse (known x) (getD window x 0)) (known x)
+  fetched-known x = go (inSpan a n x) refl
+    where
+      recalled : (v : Value) (w : ℕ) → some (recall (orElse v w)) ≡ orElse v w
+      recalled none w = refl
+      recalled (some u) w = refl
+
+      go : (b : Bool) → inSpan a n x ≡ b
+          → cond b (some (from a (seen m window a n) x)) (known x) ≡ cond b (orElse (known x) (getD window x 0)) (known x)
+      go true inside = ap some (byte-in (sees m window) a n x inside ∙ sees-known F window x) ∙ recalled (known x) (getD window x 0)
+      go false outside = refl
+
+  pub fetch-follows : Follows (holding m a n (seen m window a n)) true (λ x. cond (inSpan a n x) (orElse (known x) (getD window x 0)) (known x))
+  fetch-follows =
+      subst (Follows (holding m a n (seen m window a n)) true) (fun-ext fetched-known)
+      (hold-follows F a n (seen m window a n) (length-bytes (sees m window) a n) fits room)

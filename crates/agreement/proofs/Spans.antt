@@ -1,18 +1,14 @@
 -- Laws of tests over the addresses of a span: counts, runs, and what becomes of both if no address from a bound on passes.
-use Prim.Native.Nat.{ℕ, zero, suc, _+_, _-_, _≤_, _<_}
+use Prim.Native.Nat.{ℕ, zero, suc, _+_, _-_, _≤_}
 use native.Mathlib.Omega.{arith}
 use native.Mathlib.Nat.{zero-add, suc-add}
-use mathlib.Core.Path.{_≡_, refl, ap, subst, sym, _∙_}
-use mathlib.Core.List.{List, [], _∷_, map, append-nil}
-use mathlib.Core.Bool.{Bool, true, false, cond, not, _&&_}
-use lib.Dec.{leb, ltb}
-use lib.ListN.{length, getD, length-map}
-use borrow.Author.Tests.{leb-true, leb-false, ltb-true, ltb-false}
-use Rattle.octets.specs.Lists.{count, all, overwrite}
-use Rattle.octets.proofs.Overwrite.{overwrite-inside, overwrite-below, overwrite-above}
-use Rattle.state.specs.Records.{inSpan, span}
+use mathlib.Core.Path.{_≡_, refl, ap}
+use mathlib.Core.List.{List, [], _∷_}
+use mathlib.Core.Bool.{Bool, true, false, not}
+use Rattle.octets.specs.Lists.{count, all}
+use Rattle.state.specs.Records.{span}
 use Rattle.state.specs.Runs.{runsFrom}
-use Rattle.state.proofs.Places.{length-span, span-at}
+use Rattle.state.proofs.Places.{length-span}
 use Rattle.bits.proofs.Counts.{count-split, count-none, counts-fill}
 
 -- a test that every element passes

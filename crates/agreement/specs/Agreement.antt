@@ -1,4 +1,4 @@
--- The byte map and the record engine agree (request F-2 of 02, the agreed changes; docs/RULES.md has its rules).
+-- The byte map and the record engine agree (requests F-2 and F-3 of 02, the agreed changes; docs/RULES.md has their rules).
 use Prim.Native.Nat.{ℕ, _<_}
 use mathlib.Core.Path.{_≡_}
 use mathlib.Core.List.{List, map}
@@ -12,13 +12,14 @@ use Rattle.state.specs.State.{recordsOf, isOpen}
 use Rattle.bits.specs.Bits.{mapLimit}
 use Rattle.bytemap.specs.Map.{heldCount, runsOf, fresh, isOpen as isMapOpen}
 use Rattle.bytemap.specs.Runs as bytemap
-use Rattle.cache.specs.Runs.{Call, begin, fetch, end, start, along, ran, says, delivers, destAfter, windowAfter}
+use Rattle.cache.specs.Runs.{Call, begin, fetch, end, ownWrite, start, along, ran, says, delivers, destAfter, windowAfter}
 
 -- a call of the byte map as command c makes it of the record engine
 abbrev pub asCommand : (c : ℕ) → bytemap.Call → Call
 asCommand c bytemap.begin = begin c
 asCommand c (bytemap.fetch a n dest window) = fetch c a n dest window
 asCommand c bytemap.end = end c
+asCommand c (bytemap.ownWrite a bytes window) = ownWrite c a bytes window
 
 -- is its window one that the byte map takes?
 abbrev pub isSmall : bytemap.Call → Bool
@@ -41,7 +42,7 @@ module _ (store : List ℕ) (c : ℕ) (ps : List bytemap.Call) where
     pub records : runsOf (bytemap.ran fresh ps) ≡ recordsOf (ran (start store) commands .state) c
     pub bytes : heldCount (bytemap.ran fresh ps) ≡ total (recordsOf (ran (start store) commands .state) c)
 
--- So it is for every list of begins, fetches and ends over windows of at most 4,096 bytes, for every command, and from every store of the
+-- So it is for every list of begins, fetches, own writes and ends over windows of at most 4,096 bytes, for every command, and from every store of the
 -- right length.
 abbrev pub Agreement : Type 0
 Agreement =

@@ -19,6 +19,7 @@ use Rattle.state.specs.Checks.{lengthTooLong, outsideWindow, bufferTooShort}
 use Rattle.bits.specs.Bits.{mapLimit, wordsOf}
 use Rattle.bytemap.specs.Map.{Map, isHeld, windowBeyondMap, mapBroken, notOpen}
 
+-- a span that is to be held, by a fetch or by an own write
 module _ (m : Map) (a n : ℕ) where
   -- which addresses are held once the span is
   abbrev pub heldThen : ℕ → Bool
@@ -34,6 +35,10 @@ module _ (m : Map) (a n : ℕ) where
 
   abbrev pub replayedCount : ℕ
   replayedCount = count (isHeld m) (span a n)
+
+  -- the map that holds the span, with these bytes
+  abbrev pub holding : (bytes : List ℕ) → Map
+  holding bytes = record { flag = m .flag; words = wordsOf heldThen; values = overwrite (m .values) a bytes }
 
   -- 24: with the span there would be more than 64 runs
   abbrev pub tooManyRuns : Check
@@ -61,9 +66,7 @@ seen m window a n = map (sees m window) (span a n)
 module _ (m : Map) (window dest : List ℕ) (a n : ℕ) where
   -- the map after it: the span is held, with its bytes as the command sees them
   unfoldable pub fetchMap : Map
-  fetchMap =
-      cond (accepted (fetchSays m (length window) (length dest) a n))
-      (record { flag = m .flag; words = wordsOf (heldThen m a n); values = overwrite (m .values) a (seen m window a n) }) m
+  fetchMap = cond (accepted (fetchSays m (length window) (length dest) a n)) (holding m a n (seen m window a n)) m
 
   -- the destination after it: these bytes are at its front, and the places behind them stay
   unfoldable pub fetchDest : List ℕ

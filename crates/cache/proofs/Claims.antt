@@ -1,24 +1,32 @@
--- Show gives every record of an open command and 25 behind the last; begin and end leave a part of zeros.
+-- Show gives every record of an open command and 25 behind the last; begin and end leave a part of zeros; an own write's bytes are held and stand
+-- in the window, and it is judged as a fetch.
 use Prim.Native.Nat.{ℕ, suc, _+_, _≤_, _<_}
 use native.Mathlib.Omega.{arith}
-use mathlib.Core.Path.{_≡_, refl, ap, ap₂, _∙_}
+use mathlib.Core.Path.{_≡_, refl, ap, ap₂, sym, _∙_}
 use mathlib.Core.List.{List, [], _∷_, _++_, map, append-assoc}
 use mathlib.Core.Bool.{true, false}
 use lib.ListN.{length, take, drop, getD, replicate, length-replicate}
 use lib.Seq.{length-take-le, take-at, drop-at}
 use borrow.Author.Tests.{leb-true, leb-false, lt-leb}
 use Rattle.octets.specs.Lists.{overwrite, part}
+use Rattle.octets.proofs.Overwrite.{overwrite-part}
 use Rattle.state.specs.declared.Record.{Record}
 use Rattle.state.specs.Limits.{commandLimit, heldLimit}
 use Rattle.state.specs.Records.{span}
 use Rattle.state.specs.State.{State, recordsOf, noRecord, isOpen, holds}
-use Rattle.state.specs.Verdict.{Reply, refused, verdict}
+use Rattle.state.specs.Verdict.{Reply, refused, accepted, Check, verdict}
+use Rattle.state.proofs.Commands.{kept}
+use Rattle.state.proofs.Laws.{total-joined}
+use Rattle.state.proofs.Verdict.{accepted-alike, refused-alike}
 use Rattle.store.specs.Store.{partStart, zeroed}
+use Rattle.store.proofs.Spans.{read-back, written-span}
 use Rattle.cache.specs.Begin.{beginStore}
 use Rattle.cache.specs.End.{endStore}
+use Rattle.cache.specs.Fetch.{fetchChecks, fetchSays, fetchState}
+use Rattle.cache.specs.OwnWrite.{ownSays, ownState, ownStore, ownWindow}
 use Rattle.cache.specs.Show.{pastLast, showSays}
-use Rattle.cache.specs.Claims.{recordReply, ShowsAll, PartsZeroed}
-use Rattle.cache.proofs.Accepted.{Ready, begun, ended}
+use Rattle.cache.specs.Claims.{recordReply, ShowsAll, PartsZeroed, WrittenHeld, WindowWritten, OwnAsFetched}
+use Rattle.cache.proofs.Accepted.{Ready, begun, ended, own-judged, own-fetched}
 use Rattle.cache.proofs.Tests.{never-true, never-false}
 
 -- what is made of a list's numbers and of its records is the same list, if it is the same at each number
@@ -68,3 +76,50 @@ parts-zeroed s store c = record {
     zeros r =
         let size = length-replicate {A = ℕ} heldLimit 0 in
         written store (replicate heldLimit 0) (partStart c) heldLimit (omega (arith, r .command, r .size)) size
+
+-- An own write's bytes are those of its span, and a span stands side by side among the packed bytes.
+pub written-held : WrittenHeld
+unfolding ownStore
+written-held s store window c a [] e = refl
+written-held s store window c a (b ∷ bs) e =
+    let n = length (b ∷ bs) in
+    let F = own-fetched s (length store) (length window) c a n e in
+    let K = kept s c (F .whole) in
+    rw e
+    (read-back (recordsOf s c) a n (K .up) (omega (arith, F .inside, F .low)) _ store (partStart c)
+    (omega (arith, F .command, F .size, F .room, total-joined (recordsOf s c) a n (K .up))) (omega arith)
+    ∙ written-span a (b ∷ bs) _)
+
+pub window-written : WindowWritten
+unfolding ownWindow
+window-written s store window c a bytes e =
+    rw e (overwrite-part window bytes a (own-fetched s (length store) (length window) c a (length bytes) e .inside))
+
+-- Both are judged by one list of checks, whose verdict the numbers of the reply do not enter.
+module _ (s : State) (storeLen windowLen c a n : ℕ) where
+  abbrev checks : List Check
+  checks = fetchChecks s storeLen windowLen n c a n
+
+  taken-alike : accepted (ownSays s storeLen windowLen c a n) ≡ accepted (fetchSays s storeLen windowLen n c a n)
+  unfolding ownSays fetchSays
+  taken-alike = ap accepted (own-judged s storeLen windowLen c a n _) ∙ accepted-alike _ _ checks
+
+  number-alike : accepted (ownSays s storeLen windowLen c a n) ≡ false → ownSays s storeLen windowLen c a n ≡ fetchSays s storeLen windowLen n c a n
+  unfolding ownSays fetchSays
+  number-alike away =
+      let judged = own-judged s storeLen windowLen c a n _ in
+      judged ∙ refused-alike _ _ checks (sym (ap accepted judged) ∙ away)
+
+  state-alike : ownState s storeLen windowLen c a n ≡ fetchState s storeLen windowLen n c a n
+  unfolding ownState fetchState
+  state-alike = rw taken-alike
+
+pub own-as-fetched : OwnAsFetched
+own-as-fetched m c a bytes dest window size =
+    let storeLen = length (m .store) in
+    let n = length bytes in
+    record {
+      state = rw size (state-alike (m .state) storeLen (length window) c a n);
+      taken = rw size (taken-alike (m .state) storeLen (length window) c a n);
+      number = rw size (number-alike (m .state) storeLen (length window) c a n);
+    }

@@ -1,6 +1,7 @@
--- The claims about single calls: what show gives of a command, what begin and end leave of its part of the store, and that a refused call
--- changes nothing (01, the agreed scope, "The calls"; docs/RULES.md has its rules).
-use Prim.Native.Nat.{ℕ, _≤_, _<_}
+-- The claims about single calls: what show gives of a command, what begin, end and own write leave of its part of the store, that an own write's
+-- bytes stand in the window and that it is judged as a fetch, and that a refused call changes nothing (01, the agreed scope, "The calls", and
+-- request F-3 of 02, the agreed changes; docs/RULES.md has their rules).
+use Prim.Native.Nat.{ℕ, _+_, _≤_, _<_}
 use mathlib.Core.Path.{_≡_}
 use mathlib.Core.List.{List, [], _∷_, map}
 use mathlib.Core.Bool.{true, false}
@@ -8,14 +9,15 @@ use lib.ListN.{length, replicate}
 use Rattle.octets.specs.Lists.{part}
 use Rattle.state.specs.declared.Record.{Record}
 use Rattle.state.specs.Limits.{commandLimit, heldLimit}
-use Rattle.state.specs.Records.{span}
+use Rattle.state.specs.Records.{span, place, joined}
 use Rattle.state.specs.State.{State, recordsOf, isOpen, holds}
 use Rattle.state.specs.Verdict.{Reply, refused, replied, accepted}
 use Rattle.store.specs.Store.{partStart}
 use Rattle.cache.specs.Begin.{beginSays, beginStore}
 use Rattle.cache.specs.End.{endSays, endStore}
+use Rattle.cache.specs.OwnWrite.{ownSays, ownStore, ownWindow}
 use Rattle.cache.specs.Show.{showSays}
-use Rattle.cache.specs.Runs.{Call, Machine, says, after, destGiven, destAfter, windowGiven, windowAfter}
+use Rattle.cache.specs.Runs.{Call, fetch, ownWrite, Machine, says, stateAfter, after, destGiven, destAfter, windowGiven, windowAfter}
 
 -- a record as show replies it: its start and length
 abbrev pub recordReply : Record → Reply
@@ -37,6 +39,31 @@ pub record Zeroed (s : State) (store : List ℕ) (c : ℕ) : Type 0 where
 
 abbrev pub PartsZeroed : Type 0
 PartsZeroed = (s : State) (store : List ℕ) (c : ℕ) → Zeroed s store c
+
+-- The bytes that an accepted own write is given stand in the command's part afterwards, side by side from the place of their first address
+-- on: over whatever was held there, and whatever the window had.
+abbrev pub WrittenHeld : Type 0
+WrittenHeld =
+    (s : State) (store window : List ℕ) (c a : ℕ) (bytes : List ℕ) → accepted (ownSays s (length store) (length window) c a (length bytes)) ≡ true
+    → part (ownStore s store window c a bytes) (partStart c + place (joined (recordsOf s c) a (length bytes)) a) (length bytes) ≡ bytes
+
+-- They stand in the window too, from their first address on.
+abbrev pub WindowWritten : Type 0
+WindowWritten =
+    (s : State) (store window : List ℕ) (c a : ℕ) (bytes : List ℕ) → accepted (ownSays s (length store) (length window) c a (length bytes)) ≡ true
+    → part (ownWindow s store window c a bytes) a (length bytes) ≡ bytes
+
+-- what an own write has in common with a fetch: the state that it leaves, whether it is accepted, and, if it is not, the number
+pub record AsFetched (m : Machine) (written fetched : Call) : Type 0 where
+  pub state : stateAfter m written ≡ stateAfter m fetched
+  pub taken : accepted (says m written) ≡ accepted (says m fetched)
+  pub number : accepted (says m written) ≡ false → says m written ≡ says m fetched
+
+-- F-3's "as if fetched": so it is of every own write and the fetch of its span into a destination that is as long.
+abbrev pub OwnAsFetched : Type 0
+OwnAsFetched =
+    (m : Machine) (c a : ℕ) (bytes dest window : List ℕ) → length dest ≡ length bytes
+    → AsFetched m (ownWrite c a bytes window) (fetch c a (length bytes) dest window)
 
 -- what a call leaves as it was given
 pub record Unchanged (m : Machine) (p : Call) : Type 0 where

@@ -23,7 +23,7 @@ module _ (windowLen a n : ℕ) where
 unfoldable pub hostWindow : (window : List ℕ) (a : ℕ) (bytes : List ℕ) → List ℕ
 hostWindow window a bytes = cond (accepted (hostSays (length window) a (length bytes))) (overwrite window a bytes) window
 
--- what each answer of the code stands for, of an own write too
+-- what each answer of the code stands for
 abbrev pub writeReply : WriteAnswer → Reply
 writeReply (Done n) = replied (n ∷ [])
 writeReply (Refused r) = refused (number r)

@@ -1,5 +1,5 @@
--- The rule of 01 (the agreed scope; docs/RULES.md has its rules) on which refusal is given, and its list of those that can apply to each
--- call.
+-- The rule of 01 (the agreed scope; docs/RULES.md has its rules) on which refusal is given, and the list of those that can apply to each
+-- call, as 01 and 02 (the agreed changes) have it.
 use Prim.Native.Nat.{ℕ}
 use mathlib.Core.Path.{_≡_}
 use mathlib.Core.List.{List, [], _∷_, map}
@@ -21,14 +21,14 @@ module _ (s : State) (storeLen windowLen destLen c a n i : ℕ) where
   abbrev pub allChecks : List (List Check)
   allChecks =
       beginChecks s storeLen c ∷ endChecks s storeLen c ∷ fetchChecks s storeLen windowLen destLen c a n
-      ∷ hostChecks windowLen a n ∷ ownChecks s windowLen c a n ∷ showChecks s c i ∷ []
+      ∷ hostChecks windowLen a n ∷ ownChecks s storeLen windowLen c a n ∷ showChecks s c i ∷ []
 
-  -- the numbers of each, as 01 lists them
+  -- the numbers of each, as 01 lists them, and 02 those of an own write
   abbrev pub CanApply : Type 0
   CanApply =
       map numbers allChecks
       ≡ (6 ∷ 8 ∷ 20 ∷ 22 ∷ []) ∷ (6 ∷ 8 ∷ 20 ∷ 21 ∷ []) ∷ (4 ∷ 6 ∷ 7 ∷ 8 ∷ 9 ∷ 10 ∷ 20 ∷ 21 ∷ 23 ∷ 24 ∷ [])
-      ∷ (4 ∷ 7 ∷ 9 ∷ []) ∷ (4 ∷ 6 ∷ 7 ∷ 9 ∷ 20 ∷ 21 ∷ []) ∷ (6 ∷ 20 ∷ 21 ∷ 25 ∷ []) ∷ []
+      ∷ (4 ∷ 7 ∷ 9 ∷ []) ∷ (4 ∷ 6 ∷ 7 ∷ 8 ∷ 9 ∷ 20 ∷ 21 ∷ 23 ∷ 24 ∷ []) ∷ (6 ∷ 20 ∷ 21 ∷ 25 ∷ []) ∷ []
 
   -- each list of checks ascends
   abbrev pub ChecksAscend : Type 0
@@ -42,7 +42,9 @@ module _ (s : State) (storeLen windowLen destLen c a n i : ℕ) where
         fetchSays s storeLen windowLen destLen c a n
         ≡ lowestOr (applying (fetchChecks s storeLen windowLen destLen c a n)) (replied (fresh (recordsOf s c) a n ∷ replayed (recordsOf s c) a n ∷ []))
     pub hostWrites : hostSays windowLen a n ≡ lowestOr (applying (hostChecks windowLen a n)) (replied (n ∷ []))
-    pub ownWrites : ownSays s windowLen c a n ≡ lowestOr (applying (ownChecks s windowLen c a n)) (replied (n ∷ []))
+    pub ownWrites :
+        ownSays s storeLen windowLen c a n
+        ≡ lowestOr (applying (ownChecks s storeLen windowLen c a n)) (replied (n ∷ fresh (recordsOf s c) a n ∷ []))
     pub shows :
         showSays s c i
         ≡ lowestOr (applying (showChecks s c i)) (replied (getD (recordsOf s c) i noRecord .start ∷ getD (recordsOf s c) i noRecord .len ∷ []))

@@ -9,7 +9,7 @@ use Rattle.cache.specs.Begin.{beginSays, beginState, beginStore}
 use Rattle.cache.specs.Fetch.{fetchSays, fetchState, fetchStore, fetchDest}
 use Rattle.cache.specs.End.{endSays, endState, endStore}
 use Rattle.cache.specs.HostWrite.{hostSays, hostWindow}
-use Rattle.cache.specs.OwnWrite.{ownSays, ownWindow}
+use Rattle.cache.specs.OwnWrite.{ownSays, ownState, ownStore, ownWindow}
 use Rattle.cache.specs.Show.{showSays}
 
 -- 01's place in a list: a call with all that it is given. Its window is an argument like the others, so that it may hold anything,
@@ -37,16 +37,16 @@ says m (begin c) = beginSays (m .state) (length (m .store)) c
 says m (fetch c a n dest window) = fetchSays (m .state) (length (m .store)) (length window) (length dest) c a n
 says m (end c) = endSays (m .state) (length (m .store)) c
 says m (hostWrite a bytes window) = hostSays (length window) a (length bytes)
-says m (ownWrite c a bytes window) = ownSays (m .state) (length window) c a (length bytes)
+says m (ownWrite c a bytes window) = ownSays (m .state) (length (m .store)) (length window) c a (length bytes)
 says m (show c i) = showSays (m .state) c i
 
--- what a call leaves; a write and a show hand on what they got
+-- what a call leaves; a host write and a show hand on what they got
 abbrev pub stateAfter : Machine → Call → State
 stateAfter m (begin c) = beginState (m .state) (length (m .store)) c
 stateAfter m (fetch c a n dest window) = fetchState (m .state) (length (m .store)) (length window) (length dest) c a n
 stateAfter m (end c) = endState (m .state) (length (m .store)) c
 stateAfter m (hostWrite a bytes window) = m .state
-stateAfter m (ownWrite c a bytes window) = m .state
+stateAfter m (ownWrite c a bytes window) = ownState (m .state) (length (m .store)) (length window) c a (length bytes)
 stateAfter m (show c i) = m .state
 
 abbrev pub storeAfter : Machine → Call → List ℕ
@@ -54,7 +54,7 @@ storeAfter m (begin c) = beginStore (m .state) (m .store) c
 storeAfter m (fetch c a n dest window) = fetchStore (m .state) (m .store) window dest c a n
 storeAfter m (end c) = endStore (m .state) (m .store) c
 storeAfter m (hostWrite a bytes window) = m .store
-storeAfter m (ownWrite c a bytes window) = m .store
+storeAfter m (ownWrite c a bytes window) = ownStore (m .state) (m .store) window c a bytes
 storeAfter m (show c i) = m .store
 
 abbrev pub after : Machine → Call → Machine
@@ -90,7 +90,7 @@ windowAfter m (begin c) = []
 windowAfter m (fetch c a n dest window) = window
 windowAfter m (end c) = []
 windowAfter m (hostWrite a bytes window) = hostWindow window a bytes
-windowAfter m (ownWrite c a bytes window) = ownWindow (m .state) window c a bytes
+windowAfter m (ownWrite c a bytes window) = ownWindow (m .state) (m .store) window c a bytes
 windowAfter m (show c i) = []
 
 -- how many bytes a call asks to be delivered

@@ -14,7 +14,7 @@ use Rattle.cache.specs.Begin.{beginSays, beginState, beginStore}
 use Rattle.cache.specs.Fetch.{fetchSays, fetchState, fetchStore, fetchDest}
 use Rattle.cache.specs.End.{endSays, endState, endStore}
 use Rattle.cache.specs.HostWrite.{hostSays, hostWindow}
-use Rattle.cache.specs.OwnWrite.{ownSays, ownWindow}
+use Rattle.cache.specs.OwnWrite.{ownSays, ownState, ownStore, ownWindow}
 use Rattle.cache.specs.Show.{showSays}
 use Rattle.cache.specs.Runs.{Call, begin, fetch, end, hostWrite, ownWrite, show, Machine, says, delivers}
 use Rattle.device.specs.Step.{Device, callOf, deviceAfter}
@@ -27,7 +27,7 @@ call-leaves :
     (d : Device) (s : Step) (bytes : List ℕ) →
     let p = callOf s bytes (d .dest) (d .window) in
     accepted (says (d .machine) p) ≡ false → deviceAfter d p ≡ d
-unfolding beginState beginStore fetchState fetchStore fetchDest endState endStore hostWindow ownWindow
+unfolding beginState beginStore fetchState fetchStore fetchDest endState endStore hostWindow ownState ownStore ownWindow
 call-leaves d (Begin c) bytes e = rw e
 call-leaves d (Fetch c a n) bytes e = rw e
 call-leaves d (End c) bytes e = rw e

@@ -24,7 +24,7 @@ RefusedFrame = (d : Device) (frame : List ℕ) → accepted (frameSays d frame) 
 abbrev pub listed : List ℕ
 listed = 1 ∷ 2 ∷ 3 ∷ 4 ∷ 5 ∷ 6 ∷ 7 ∷ 8 ∷ 9 ∷ 10 ∷ 11 ∷ 20 ∷ 21 ∷ 22 ∷ 23 ∷ 24 ∷ 25 ∷ []
 
--- which of them can apply, as 01 has it for the reader, the writer and each call
+-- which of them can apply, as 01 has it for the reader, the writer and each call, and 02 (the agreed changes) for an own write
 abbrev pub ofReader : List ℕ
 ofReader = 1 ∷ 2 ∷ 3 ∷ 4 ∷ 5 ∷ []
 
@@ -36,10 +36,10 @@ ofCall (begin c) = 6 ∷ 8 ∷ 20 ∷ 22 ∷ []
 ofCall (fetch c a n dest window) = 4 ∷ 6 ∷ 7 ∷ 8 ∷ 9 ∷ 10 ∷ 20 ∷ 21 ∷ 23 ∷ 24 ∷ []
 ofCall (end c) = 6 ∷ 8 ∷ 20 ∷ 21 ∷ []
 ofCall (hostWrite a bytes window) = 4 ∷ 7 ∷ 9 ∷ []
-ofCall (ownWrite c a bytes window) = 4 ∷ 6 ∷ 7 ∷ 9 ∷ 20 ∷ 21 ∷ []
+ofCall (ownWrite c a bytes window) = 4 ∷ 6 ∷ 7 ∷ 8 ∷ 9 ∷ 20 ∷ 21 ∷ 23 ∷ 24 ∷ []
 ofCall (show c i) = 6 ∷ 20 ∷ 21 ∷ 25 ∷ []
 
--- Every refusal has a number of 01's lists, and one that 01 says can apply there.
+-- Every refusal has a number of 01's lists, and one that can apply there.
 pub record RefusalsListed : Type 0 where
   pub reads : (frame : List ℕ) → keepsTo ofReader (readSays frame) ≡ true
   pub writes : (kind command address size given room : ℕ) → keepsTo ofWriter (writeSays kind command address size given room) ≡ true

@@ -2,7 +2,7 @@
 ghost use mathlib.Core.Path.{_≡_};
 ghost use mathlib.Core.Bool.{cond};
 ghost use Rattle.state.specs.Verdict.{accepted};
-ghost use Rattle.state.specs.Answers.{beginReply, endReply, fetchReply};
+ghost use Rattle.state.specs.Answers.{beginReply, endReply, fetchReply, ownWriteReply};
 ghost use Rattle.cache.specs.HostWrite.{writeReply};
 ghost use Rattle.log.specs.Line.{answerReply};
 ghost use Rattle.device.specs.Step.{deviceOf, callOf, Makes};
@@ -13,6 +13,7 @@ use state::BeginAnswer;
 use state::CacheState;
 use state::EndAnswer;
 use state::FetchAnswer;
+use state::OwnWriteAnswer;
 
 // The answer, and how many bytes were delivered to the front of the destination.
 pub(crate) struct Made {
@@ -53,6 +54,15 @@ fn written(answer: WriteAnswer) -> Answer
     match answer {
         WriteAnswer::Done(n) => Answer::Count(n),
         WriteAnswer::Refused(why) => Answer::Refused(why),
+    }
+}
+
+fn own_written(answer: OwnWriteAnswer) -> Answer
+    ensures { λ r. ⌜ answerReply r ≡ ownWriteReply answer ⌝ }
+{
+    match answer {
+        OwnWriteAnswer::Done { written, fresh } => Answer::Counts(written, fresh),
+        OwnWriteAnswer::Refused(why) => Answer::Refused(why),
     }
 }
 
@@ -105,7 +115,7 @@ pub(crate) fn make(
             address,
             ..
         } => Made {
-            answer: written(ownwrite::own_write(state, window, command, address, bytes)),
+            answer: own_written(ownwrite::own_write(state, store, window, command, address, bytes)),
             delivered: 0,
         },
     }

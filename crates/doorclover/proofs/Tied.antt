@@ -1,6 +1,6 @@
 -- Each call of the code is the call of its name in lists of calls: its contract is said by the definitions that the lists are made of.
 use Prim.Native.Nat.{ℕ}
-use mathlib.Core.Path.{_≡_, refl, ap}
+use mathlib.Core.Path.{_≡_, refl}
 use mathlib.Core.List.{List}
 use Rattle.state.specs.State.{State}
 use Rattle.state.specs.Words.{stateOf}
@@ -19,6 +19,6 @@ calls-tied words store = record {
   fetches = λ F. (F .answer, equal-machines _ (F .state) (F .bytes), F .delivered);
   ends = λ E. (E .answer, equal-machines _ (E .state) (E .bytes));
   hostWrites = λ H. (H .answer, refl, H .host);
-  ownWrites = λ W. (W .answer, equal-machines _ (ap stateOf (W .state)) (W .stored), W .host);
+  ownWrites = λ W. (W .answer, equal-machines _ (W .state) (W .stored), W .host);
   shows = λ S. (S .answer, refl);
 }

@@ -11,7 +11,7 @@ use Rattle.cache.specs.Begin.{beginSays, beginState, beginStore}
 use Rattle.cache.specs.Fetch.{fetchSays, fetchState, fetchStore, fetchDest}
 use Rattle.cache.specs.End.{endSays, endState, endStore}
 use Rattle.cache.specs.HostWrite.{hostSays, hostWindow}
-use Rattle.cache.specs.OwnWrite.{ownSays, ownWindow}
+use Rattle.cache.specs.OwnWrite.{ownSays, ownState, ownStore, ownWindow}
 use Rattle.cache.specs.Show.{showSays}
 use Rattle.cache.specs.Runs.{begin, fetch, end, hostWrite, ownWrite, show, Machine, says, after, destAfter, windowAfter}
 use Rattle.history.specs.Claims.{given}
@@ -46,12 +46,12 @@ pub record HostWrites (window : List ℕ) (a : ℕ) (bytes : List ℕ) (r : Writ
   pub answer : r ≡ writtenOf (hostSays (length window) a (length bytes))
   pub host : window′ ≡ hostWindow window a bytes
 
--- state and store are lent, and stay as they are
 pub record OwnWrites (words store window : List ℕ) (c a : ℕ) (bytes : List ℕ) (r : Written) (words′ store′ window′ : List ℕ) : Type 0 where
-  pub answer : r ≡ writtenOf (ownSays (stateOf words) (length window) c a (length bytes))
-  pub state : words′ ≡ words
-  pub stored : store′ ≡ store
-  pub host : window′ ≡ ownWindow (stateOf words) window c a bytes
+  pub answer : r ≡ writtenOf (ownSays (stateOf words) (length store) (length window) c a (length bytes))
+  pub state : stateOf words′ ≡ ownState (stateOf words) (length store) (length window) c a (length bytes)
+  pub kept : accepted (ownSays (stateOf words) (length store) (length window) c a (length bytes)) ≡ false → words′ ≡ words
+  pub stored : store′ ≡ ownStore (stateOf words) store window c a bytes
+  pub host : window′ ≡ ownWindow (stateOf words) store window c a bytes
 
 -- the state alone is lent, and not to be written
 pub record Shows (words : List ℕ) (c i : ℕ) (r : Shown) : Type 0 where

@@ -11,6 +11,7 @@ use replies::Written;
 use replies::begin_reply;
 use replies::end_reply;
 use replies::fetch_reply;
+use replies::own_write_reply;
 use replies::show_reply;
 use replies::write_reply;
 use state::CacheState;
@@ -69,7 +70,6 @@ pub extern "C" fn doorclover_host_write(window: &mut [u8], address: usize, bytes
     write_reply(cache::host_write::host_write(window, address, bytes))
 }
 
-// State and store are lent as to the other calls of a command, and stay as they are.
 #[no_mangle]
 pub extern "C" fn doorclover_own_write(
     state: &mut [u16; CacheState::WORDS],
@@ -81,7 +81,7 @@ pub extern "C" fn doorclover_own_write(
 ) -> Written
     ensures { λ r. ⌜ OwnWrites (now (state .entry)) (now (store .entry)) (now (window .entry)) command address (now (bytes .entry)) r (now (state .exit)) (now (store .exit)) (now (window .exit)) ⌝ }
 {
-    write_reply(ownwrite::own_write(state, window, command, address, bytes))
+    own_write_reply(ownwrite::own_write(state, store, window, command, address, bytes))
 }
 
 #[no_mangle]

@@ -19,6 +19,7 @@ pub use map::doorclover_map_begin;
 pub use map::doorclover_map_end;
 pub use map::doorclover_map_fetch;
 pub use map::doorclover_map_fresh;
+pub use map::doorclover_map_own_write;
 pub use release::doorclover_release;
 pub use replay::Replayed;
 pub use replay::doorclover_journal_replay;

@@ -1,14 +1,16 @@
 // The byte map's calls. The three parts of a map are lent by their addresses: its flag, its words and its values.
 ghost use mathlib.Core.Path.{_≡_};
 ghost use Rattle.bytemap.specs.Map.{mapOf, fresh};
-ghost use Rattle.doorclover.specs.Map.{MapBegins, MapFetches, MapEnds};
+ghost use Rattle.doorclover.specs.Map.{MapBegins, MapFetches, MapEnds, MapOwnWrites};
 use bytemap::ByteMap;
 use replies::Begun;
 use replies::Ended;
 use replies::Fetched;
+use replies::Written;
 use replies::begin_reply;
 use replies::end_reply;
 use replies::fetch_reply;
+use replies::own_write_reply;
 
 // Makes the fresh map.
 #[no_mangle]
@@ -59,4 +61,18 @@ pub extern "C" fn doorclover_map_end(
     ensures { λ r. ⌜ MapEnds (mapOf (now (flag .entry)) (now (words .entry)) (now (values .entry))) r (mapOf (now (flag .exit)) (now (words .exit)) (now (values .exit))) ⌝ }
 {
     end_reply(bytemap::end::end(flag, words, values))
+}
+
+#[no_mangle]
+pub extern "C" fn doorclover_map_own_write(
+    flag: &u64,
+    words: &mut [u64; ByteMap::WORDS],
+    values: &mut [u8; ByteMap::ADDRESSES],
+    window: &mut [u8],
+    address: usize,
+    bytes: &[u8],
+) -> Written
+    ensures { λ r. ⌜ MapOwnWrites (mapOf (now (flag .entry)) (now (words .entry)) (now (values .entry))) (now (window .entry)) address (now (bytes .entry)) r (mapOf (now (flag .entry)) (now (words .exit)) (now (values .exit))) (now (window .exit)) ⌝ }
+{
+    own_write_reply(mapwrite::own_write(flag, words, values, window, address, bytes))
 }

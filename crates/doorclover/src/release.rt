@@ -1,11 +1,11 @@
 // Which interface this is.
 ghost use mathlib.Core.Path.{_≡_};
 
-const RELEASE: u32 = 1;
+const RELEASE: u32 = 2;
 
 #[no_mangle]
 pub extern "C" fn doorclover_release() -> u32
-    ensures { λ r. ⌜ r ≡ 1 ⌝ }
+    ensures { λ r. ⌜ r ≡ 2 ⌝ }
 {
     RELEASE
 }

@@ -1,4 +1,4 @@
-// The parts of a fetch: fresh addresses, and those that a record held before it.
+// The parts of a span that is fetched or written: addresses that were not held before, and those that a record held.
 ghost use Prim.Native.Nat.{_<_, _≤_};
 ghost use lib.ListN.{length};
 use cache::show::ShowAnswer;
@@ -65,7 +65,7 @@ fn put_bytes(line: &mut [u8], at: usize, bytes: &[u8]) -> usize {
     text::put_hex(line, next, bytes)
 }
 
-// The part of a fetch from one place up to another: what it is, its span and its bytes. A part of no bytes is left out.
+// The part of a span from one place up to another: what it is, its address and length, and its bytes. A part of no bytes is left out.
 fn put_part(
     line: &mut [u8],
     at: usize,
@@ -85,29 +85,7 @@ fn put_part(
     put_bytes(line, next, &bytes[from..to])
 }
 
-fn put_fresh(
-    line: &mut [u8],
-    at: usize,
-    address: usize,
-    bytes: &[u8],
-    from: usize,
-    to: usize,
-) -> usize {
-    put_part(line, at, b"fresh", address, bytes, from, to)
-}
-
-fn put_replayed(
-    line: &mut [u8],
-    at: usize,
-    address: usize,
-    bytes: &[u8],
-    from: usize,
-    to: usize,
-) -> usize {
-    put_part(line, at, b"replayed", address, bytes, from, to)
-}
-
-// The parts in ascending order: for each record what stands before it, and what it held. The state is the one before the fetch.
+// The parts in ascending order: for each record what stands before it, `unheld`, and what it held. The state is the one before the call.
 fn put_all(
     line: &mut [u8],
     at: usize,
@@ -115,6 +93,8 @@ fn put_all(
     command: usize,
     address: usize,
     bytes: &[u8],
+    unheld: &[u8],
+    held: &[u8],
 ) -> usize {
     let mut next = at;
     let mut done = 0;
@@ -126,15 +106,15 @@ fn put_all(
         }
         let from = greater(done, minus(r.start, address));
         let to = greater(done, minus(r.start + r.len, address));
-        next = put_fresh(line, next, address, bytes, done, from);
-        next = put_replayed(line, next, address, bytes, from, to);
+        next = put_part(line, next, unheld, address, bytes, done, from);
+        next = put_part(line, next, held, address, bytes, from, to);
         done = to;
         i += 1;
     }
-    put_fresh(line, next, address, bytes, done, bytes.len())
+    put_part(line, next, unheld, address, bytes, done, bytes.len())
 }
 
-// The bytes that a fetch delivered.
+// The bytes of a span, with a word for each part that was not held before and one for each that was.
 pub(crate) fn put_parts(
     line: &mut [u8],
     at: usize,
@@ -142,10 +122,12 @@ pub(crate) fn put_parts(
     command: usize,
     address: usize,
     bytes: &[u8],
+    unheld: &[u8],
+    held: &[u8],
 ) -> usize {
     let next = put(line, at, b": ");
     if bytes.len() == 0 {
         return put(line, next, b"nothing");
     }
-    put_all(line, next, before, command, address, bytes)
+    put_all(line, next, before, command, address, bytes, unheld, held)
 }

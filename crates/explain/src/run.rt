@@ -19,7 +19,7 @@ use state::CacheState;
 // The window of the log program.
 const WINDOW: usize = 16384;
 
-// Room for the longest line of words: 300 bytes before the words, 65 parts of fresh and 64 of replayed bytes with 24 characters each around
+// Room for the longest line of words: 300 bytes before the words, 65 parts that were not held and 64 that were with 24 characters each around
 // their bytes, 8,192 digits, and 64 records of 12 characters. No line of the log is as long.
 const LINE: usize = 16384;
 

@@ -83,11 +83,28 @@ pub(crate) fn put_done(
             address,
             ..
         } => {
-            let next = put_parts(line, at, before, command, address, delivered);
+            let next = put_parts(
+                line,
+                at,
+                before,
+                command,
+                address,
+                delivered,
+                b"fresh",
+                b"replayed",
+            );
             put_records(line, next, state, command)
         }
         Step::End { .. } => put_held(line, at, answer),
-        _ => put_data(line, at, data),
+        Step::HostWrite { .. } => put_data(line, at, data),
+        Step::OwnWrite {
+            command,
+            address,
+            ..
+        } => {
+            let next = put_parts(line, at, before, command, address, data, b"new", b"over");
+            put_records(line, next, state, command)
+        }
     }
 }
 

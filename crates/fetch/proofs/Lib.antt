@@ -1,2 +1,1 @@
 pub mod Fetching
-pub mod Lending

@@ -11,16 +11,15 @@ ghost use Rattle.state.specs.Words.{stateOf};
 ghost use Rattle.fetch.specs.Fetch.{Fetches};
 use admission::admit::Admission;
 use admission::admit::admit;
-use admission::plan::Finding;
-use admission::plan::planned;
-use join::splice::splice;
+use holding::Holding;
+use holding::hold_span;
 use state::CacheState;
 use state::FetchAnswer;
 use state::Refusal;
 use store::part;
 
-// A span of a byte or more: there must be room for what it brings. It is held, and then it lies in one record, side by side. The
-// command's words are lent to be changed only after the verdict.
+// A span of a byte or more: it is held, if there is room for what it brings, and then it lies in one record, side by side, and is delivered from
+// there.
 fn fetch_span(
     state: &mut [u16],
     store: &mut [u8],
@@ -33,30 +32,12 @@ fn fetch_span(
     requires { ⌜ (length (now state) ≡ stateWords) × (accepted (verdict (admitChecks (stateOf (now state)) (length (now store)) (length (now window)) (length (now destination)) command address size) (replied [])) ≡ true) × (0 < size) ⌝ }
     ensures { λ r. ⌜ Fetches (now (state .entry)) (now (store .entry)) (now (window .entry)) (now (destination .entry)) command address size r (now (state .exit)) (now (store .exit)) (now (destination .exit)) ⌝ }
 {
-    let low = CacheState::COMMAND_WORDS * command;
-    let high = low + CacheState::COMMAND_WORDS;
-    let plan = planned(&state[low..high], address, size);
-    match plan {
-        Finding::Bytes => FetchAnswer::Refused(Refusal::TooManyBytes),
-        Finding::Records => FetchAnswer::Refused(Refusal::TooManyRecords),
-        Finding::Span {
-            m,
-            fresh,
-            place,
-            behind,
-        } => {
-            part::hold(
-                store,
-                command,
-                window,
-                0,
-                &state[low..high],
-                m,
-                fresh,
-                behind,
-            );
+    let holding = hold_span(state, store, window, 0, command, address, size);
+    match holding {
+        Holding::Bytes => FetchAnswer::Refused(Refusal::TooManyBytes),
+        Holding::Records => FetchAnswer::Refused(Refusal::TooManyRecords),
+        Holding::Span { fresh, place } => {
             part::deliver(store, command, place, size, destination);
-            splice(&mut state[low..high], m);
             let replayed = size - fresh;
             FetchAnswer::Done { fresh, replayed }
         }

@@ -29,31 +29,14 @@ use Rattle.cache.specs.OwnWrite.{ownSays}
 use Rattle.cache.specs.Show.{showSays}
 use Rattle.cache.specs.Runs.{Call, begin, fetch, end, hostWrite, ownWrite, show, Machine, start, says, after, along}
 use Rattle.history.specs.Journal.{Event, event, told}
-use Rattle.history.specs.Firsts.{memory, fetchedSince}
-use Rattle.history.specs.Answers.{openSince, fetchedCount, replayCount, firstCount, runsOf, runsWith, notOpen, bytesFull, recordsFull, noSuchRun}
+use Rattle.history.specs.Firsts.{memory, heldSince}
+use Rattle.history.specs.Answers.{openSince, heldCount, replayCount, firstCount, runsOf, runsWith, notOpen, bytesFull, recordsFull, noSuchRun}
 use Rattle.history.specs.Answers.{answerOwed, answersOwed, AnswersTold, answersGiven, CallsGiveAnswers}
-use Rattle.history.proofs.Stored.{memory-search, held-known}
+use Rattle.history.proofs.Counts.{count-held, count-fresh}
+use Rattle.history.proofs.Stored.{memory-held, held-known}
 use Rattle.history.proofs.Tied.{Tied, tied-start, tied-after}
 
 -- Counts of addresses, and of records
-
-count-held : (rs : List Record) (xs : List ℕ) → countHeld rs xs ≡ count (held rs) xs
-unfolding countHeld count
-count-held rs [] = refl
-count-held rs (x ∷ xs) = go (held rs x) (count-held rs xs)
-  where
-    go : (b : Bool) {k l : ℕ} → k ≡ l → cond b (suc k) k ≡ cond b 1 0 + l
-    go true ih = omega arith
-    go false ih = omega arith
-
-count-fresh : (rs : List Record) (xs : List ℕ) → countFresh rs xs ≡ count (λ x. not (held rs x)) xs
-unfolding countFresh count
-count-fresh rs [] = refl
-count-fresh rs (x ∷ xs) = go (held rs x) (count-fresh rs xs)
-  where
-    go : (b : Bool) {k l : ℕ} → k ≡ l → cond b k (suc k) ≡ cond (not b) 1 0 + l
-    go true ih = omega arith
-    go false ih = omega arith
 
 -- behind all addresses every held one counts
 place-end : (lo : ℕ) (rs : List Record) → ascending lo rs ≡ true → place rs windowLimit ≡ total rs
@@ -85,10 +68,10 @@ module _ {storeLen : ℕ} {m : Machine} {past : List Event} (T : Tied storeLen m
   up : ascending 0 rs ≡ true
   up = kept (m .state) c (T .sound .state .whole) .up
 
-  held-since : held rs ≡ fetchedSince past c
-  held-since = fun-ext λ x. held-known m (memory past) (T .sound) c o x ∙ memory-search past c x
+  held-since : held rs ≡ heldSince past c
+  held-since = fun-ext λ x. held-known m (memory past) (T .sound) c o x ∙ memory-held past c x
 
-  pub total-told : total rs ≡ fetchedCount past c
+  pub total-told : total rs ≡ heldCount past c
   total-told = total-count rs up ∙ ap (λ (f : ℕ → Bool). count f (span 0 windowLimit)) held-since
 
   fresh-told : (a n : ℕ) → fresh rs a n ≡ firstCount past c a n
@@ -117,7 +100,7 @@ module _ {storeLen : ℕ} {m : Machine} {past : List Event} (T : Tied storeLen m
   fetch-told : (a n : ℕ) → replied (fresh rs a n ∷ replayed rs a n ∷ []) ≡ replied (firstCount past c a n ∷ replayCount past c a n ∷ [])
   fetch-told a n = rw (fresh-told a n, replayed-told a n)
 
-  end-told : replied (length rs ∷ total rs ∷ []) ≡ replied (length (runsOf past c) ∷ fetchedCount past c ∷ [])
+  end-told : replied (length rs ∷ total rs ∷ []) ≡ replied (length (runsOf past c) ∷ heldCount past c ∷ [])
   end-told = ap₂ (λ k b. replied (k ∷ b ∷ [])) (ap length runs-told) total-told
 
   show-told : (i : ℕ) → shown rs i ≡ shown (runsOf past c) i
@@ -155,6 +138,15 @@ module _ {storeLen : ℕ} {m : Machine} {past : List Event} (T : Tied storeLen m
   unfolding answerOwed beginSays verdict
   begin-owed c = rw (T .size, whole, T .opened c)
 
+  -- what is behind 21 of a fetch and of an own write: 23 and 24, and the reply
+  room-owed :
+      (c a n windowLen : ℕ) (reply reply′ : Reply) → isOpen s c ≡ true → ltb windowLimit windowLen ≡ false → ltb windowLen (a + n) ≡ false → reply ≡ reply′
+      → verdict (tooManyBytes (recordsOf s c) a n ∷ tooManyRecords (recordsOf s c) a n ∷ []) reply
+      ≡ verdict (bytesFull past c a n ∷ recordsFull past c a n ∷ []) reply′
+  room-owed c a n windowLen reply reply′ o low inside same =
+      let fits : a + n ≤ windowLimit = omega (arith, ltb-false windowLimit windowLen low, ltb-false windowLen (a + n) inside) in
+      ap₂ (λ k r. verdict k r) (ap₂ (λ b k. b ∷ k ∷ []) (bytes-full-told T c o a n) (records-full-told T c o a n fits)) same
+
   fetch-owed : (c a n : ℕ) (dest window : List ℕ) → says m (fetch c a n dest window) ≡ answerOwed storeLen past (fetch c a n dest window)
   unfolding answerOwed fetchSays
   fetch-owed c a n dest window =
@@ -162,17 +154,9 @@ module _ {storeLen : ℕ} {m : Machine} {past : List Event} (T : Tied storeLen m
       (checks-behind
       (lengthTooLong n ∷ commandTooHigh c ∷ windowTooLong (length window) ∷ storeWrongSize storeLen ∷ outsideWindow (length window) a n
       ∷ bufferTooShort (length dest) n ∷ []) _ _ _ _ λ f.
-      not-applying 20 _ _ ∙ checks-behind (notOpen past c ∷ []) _ _ _ _ λ h. behind (opened-told c (h .0)) (f .1 .1 .0) (f .1 .1 .1 .1 .0))
-    where
-      behind : isOpen s c ≡ true → ltb windowLimit (length window) ≡ false → ltb (length window) (a + n) ≡ false
-          → verdict (tooManyBytes (recordsOf s c) a n ∷ tooManyRecords (recordsOf s c) a n ∷ [])
-          (replied (fresh (recordsOf s c) a n ∷ replayed (recordsOf s c) a n ∷ []))
-          ≡ verdict (bytesFull past c a n ∷ recordsFull past c a n ∷ []) (replied (firstCount past c a n ∷ replayCount past c a n ∷ []))
-      behind o low inside =
-          let fits : a + n ≤ windowLimit = omega (arith, ltb-false windowLimit (length window) low, ltb-false (length window) (a + n) inside) in
-          ap₂ (λ k r. verdict k r)
-          (ap₂ (λ b k. b ∷ k ∷ []) (bytes-full-told T c o a n) (records-full-told T c o a n fits))
-          (fetch-told T c o a n)
+      not-applying 20 _ _
+      ∙ checks-behind (notOpen past c ∷ []) _ _ _ _ λ h.
+      let o = opened-told c (h .0) in room-owed c a n (length window) _ _ o (f .1 .1 .0) (f .1 .1 .1 .1 .0) (fetch-told T c o a n))
 
   end-owed : (c : ℕ) → says m (end c) ≡ answerOwed storeLen past (end c)
   unfolding answerOwed endSays
@@ -182,8 +166,16 @@ module _ {storeLen : ℕ} {m : Machine} {past : List Event} (T : Tied storeLen m
       not-applying 20 _ _ ∙ checks-behind (notOpen past c ∷ []) _ _ _ _ λ h. ap (verdict []) (end-told T c (opened-told c (h .0))))
 
   own-owed : (c a : ℕ) (bytes window : List ℕ) → says m (ownWrite c a bytes window) ≡ answerOwed storeLen past (ownWrite c a bytes window)
-  unfolding answerOwed ownSays verdict
-  own-owed c a bytes window = rw (whole, T .opened c)
+  unfolding answerOwed ownSays
+  own-owed c a bytes window =
+      let n = length bytes in
+      rw (T .size, whole, T .opened c)
+      (checks-behind
+      (lengthTooLong n ∷ commandTooHigh c ∷ windowTooLong (length window) ∷ storeWrongSize storeLen ∷ outsideWindow (length window) a n ∷ []) _ _ _ _ λ f.
+      not-applying 20 _ _
+      ∙ checks-behind (notOpen past c ∷ []) _ _ _ _ λ h.
+      let o = opened-told c (h .0) in
+      room-owed c a n (length window) _ _ o (f .1 .1 .0) (f .1 .1 .1 .1 .0) (ap (λ (k : ℕ). replied (n ∷ k ∷ [])) (fresh-told T c o a n)))
 
   show-owed : (c i : ℕ) → says m (show c i) ≡ answerOwed storeLen past (show c i)
   unfolding answerOwed showSays

@@ -13,7 +13,7 @@ use Rattle.cache.specs.Fetch.{fetchDest}
 use Rattle.cache.proofs.Accepted.{fetched}
 use Rattle.cache.specs.Runs.{Call, begin, fetch, end, hostWrite, ownWrite, show, Machine, start, along, says, after, destAfter, delivers}
 use Rattle.history.specs.Journal.{deedOf}
-use Rattle.history.specs.Firsts.{none, first, orElse, Memory, remember, memory, recall, owedBy}
+use Rattle.history.specs.Firsts.{none, some, orElse, Memory, remember, memory, recall, owedBy}
 use Rattle.history.specs.Claims.{DeliveryRule}
 use Rattle.history.proofs.Effects.{old}
 use Rattle.history.proofs.Sound.{Sound, sound-start, sound-after}
@@ -28,7 +28,7 @@ dest-front m c a n dest window e =
     let bytes = map (sees (old m c) (location (m .state) c) (m .store) (byteAt window)) (span a n) in
     rw e (overwrite-front dest bytes n (length-map (span a n) (sees (old m c) (location (m .state) c) (m .store) (byteAt window)) ∙ length-span a n))
 
-seen : (h : Bool) (u w : ℕ) → cond h u w ≡ recall (orElse (cond h (first u) none) w)
+seen : (h : Bool) (u w : ℕ) → cond h u w ≡ recall (orElse (cond h (some u) none) w)
 seen true u w = refl
 seen false u w = refl
 

@@ -11,14 +11,14 @@ use Rattle.state.specs.Records.{inSpan, held, span}
 use Rattle.state.specs.State.{isOpen}
 use Rattle.state.specs.Verdict.{accepted}
 use Rattle.state.proofs.Laws.{held-joined, map-held}
-use Rattle.store.specs.Store.{partStart, location, byteAt, sees}
-use Rattle.cache.proofs.Accepted.{fetched}
+use Rattle.store.specs.Store.{partStart}
+use Rattle.cache.specs.OwnWrite.{ownStore}
 use Rattle.cache.specs.Runs.{Call, fetch, Machine, start, along, says, stateAfter, storeAfter, after}
 use Rattle.cache.proofs.Unchanged.{refused-same}
 use Rattle.history.specs.Journal.{Deed, deedOf}
 use Rattle.history.specs.Firsts.{none, Memory, remember, memory, firstsBy, recall, owedBy}
 use Rattle.history.specs.Claims.{common, blankDest, commonLengths, EqualRunsRule, EqualRunsLengths}
-use Rattle.history.proofs.Effects.{old, grown, packed, fetch-after, length-after}
+use Rattle.history.proofs.Effects.{old, grown, packed, found, fetch-after, fetch-taken, length-after}
 use Rattle.history.proofs.Sound.{Sound, sound-start, sound-after}
 use Rattle.history.proofs.Memories.{alongMemory, told-memory}
 use Rattle.history.proofs.Delivery.{delivery}
@@ -79,11 +79,10 @@ firsts-carry d e mem (fetching {c} {a} {n} {w} {v}) h =
 module _ (m : Machine) (mem : Memory) (S : Sound m mem) (c a n : ℕ) (w v : List ℕ) (opened : isOpen (m .state) c ≡ true)
     (values : map (value (mem c) w) (span a n) ≡ map (value (mem c) v) (span a n)) where
   sees-equal : (x : ℕ) → held (grown m c a n) x ≡ true
-      → sees (old m c) (location (m .state) c) (m .store) (byteAt w) x ≡ sees (old m c) (location (m .state) c) (m .store) (byteAt v) x
+      → found m c w x ≡ found m c v x
   sees-equal x h = go (held (old m c) x) refl
     where
-      go : (b : Bool) → held (old m c) x ≡ b
-          → sees (old m c) (location (m .state) c) (m .store) (byteAt w) x ≡ sees (old m c) (location (m .state) c) (m .store) (byteAt v) x
+      go : (b : Bool) → held (old m c) x ≡ b → found m c w x ≡ found m c v x
       go true e = rw e
       go false e =
           let near : inSpan a n x ≡ true = rw (held-joined (old m c) a n x, e) at h in
@@ -92,7 +91,7 @@ module _ (m : Machine) (mem : Memory) (S : Sound m mem) (c a n : ℕ) (w v : Lis
           let q = rw unknown at (at-span (value (mem c) w) (value (mem c) v) a n values x (i .0) (i .1)) in
           rw e (ap recall q)
 
-  packed-equal : packed m c a n w ≡ packed m c a n v
+  packed-equal : packed m c a n (found m c w) ≡ packed m c a n (found m c v)
   packed-equal = map-held _ _ (grown m c a n) sees-equal
 
 accepted-alike : (m : Machine) (p q : Call) {b : Bool} → Alike p q → accepted (says m p) ≡ b → accepted (says m q) ≡ b
@@ -102,18 +101,18 @@ stores-alike :
     {m : Machine} {p q : Call} (mem : Memory) (b : Bool) → Sound m mem → Alike p q → accepted (says m p) ≡ b
     → firstsBy mem (deedOf b p) ≡ firstsBy mem (deedOf b q)
     → storeAfter m p ≡ storeAfter m q
-unfolding firstsBy
+unfolding firstsBy ownStore
 stores-alike {m} {p} {q} mem false S A e f = ap (λ (j : Machine). j .store) (refused-same m p e ∙ sym (refused-same m q (accepted-alike m p q A e)))
 stores-alike mem true S begins e f = refl
 stores-alike {m} mem true S (fetches {c} {a} {n} {t} {u} {w} {v} d k) e f =
     let e′ = accepted-alike m (fetch c a n t w) (fetch c a n u v) (fetches d k) e in
-    let F = fetched (m .state) (length (m .store)) (length w) (length t) c a n e in
+    let F = fetch-taken m c a n t w e in
     ap (λ (j : Machine). j .store) (fetch-after m c a n t w e)
     ∙ ap (overwrite (m .store) (partStart c)) (packed-equal m mem S c a n w v (F .opened) (firsts-values (mem c) w v (span a n) f))
     ∙ sym (ap (λ (j : Machine). j .store) (fetch-after m c a n u v e′))
 stores-alike mem true S ends e f = refl
 stores-alike mem true S (hostWrites b k) e f = refl
-stores-alike mem true S (ownWrites k) e f = refl
+stores-alike mem true S (ownWrites k) e f = cc
 stores-alike mem true S shows e f = refl
 
 stores-equal :

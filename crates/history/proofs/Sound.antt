@@ -1,5 +1,5 @@
--- What holds between the state, the store and the memory after every call: an open command holds just the addresses that it
--- has fetched since its begin, each with the value first fetched.
+-- What holds between the state, the store and the memory after every call: an open command holds just the addresses that it has fetched or
+-- written since its begin, each with the value last written there, else the one first fetched.
 use Prim.Native.Nat.{ℕ, _+_, _<_, _≤_}
 use native.Mathlib.Omega.{arith}
 use mathlib.Core.Path.{_≡_, refl, ap, subst, sym, _∙_}
@@ -18,20 +18,24 @@ use Rattle.state.specs.State.{CommandState, commandOf, recordsIn, recordsOf, is
 use Rattle.state.specs.Verdict.{accepted}
 use Rattle.state.proofs.Laws.{held-joined, place-below, at-place}
 use Rattle.state.proofs.Commands.{command-same, command-other, records-open-with, Kept, kept, eight}
-use Rattle.store.specs.Store.{partStart, location, byteAt, sees}
-use Rattle.cache.proofs.Accepted.{Fetched, fetched}
+use Rattle.store.specs.Store.{partStart, location, from}
 use Rattle.cache.specs.Runs.{Call, begin, fetch, end, hostWrite, ownWrite, show, Machine, start, says, after, along, ran}
 use Rattle.cache.proofs.Unchanged.{refused-same}
-use Rattle.history.specs.Journal.{Event, event, backwards, deedOf}
-use Rattle.history.specs.Firsts.{Value, none, first, orElse, Memory, remember, memory}
+use Rattle.history.specs.Journal.{Event, event, backwards, fetched, wrote, deedOf}
+use Rattle.history.specs.Firsts.{Value, none, some, orElse, Memory, remember, memory, isKnown}
 use Rattle.history.proofs.Replaced.{replaced, Fits, byte-other, length-replaced}
-use Rattle.history.proofs.Effects.{old, grown, packed, zeros, begin-after, end-after, fetch-after, begin-fits, end-fits, packed-fits}
-use Rattle.history.proofs.Effects.{length-packed, ascending-grown, total-grown}
+use Rattle.history.proofs.Effects.{old, grown, packed, zeros, found, put, grownInto, begin-after, end-after, fetch-after, own-after}
+use Rattle.history.proofs.Effects.{begin-fits, end-fits, Taken, fetch-taken, own-taken, packed-fits, length-packed, ascending-grown, total-grown}
 use Rattle.history.proofs.Invariant.{Whole, whole-start, whole-replaced}
 
 -- what the records and the store say of an address
 abbrev pub stored : List Record → (location : ℕ → ℕ) → (store : List ℕ) → ℕ → Value
-stored rs location store x = cond (held rs x) (first (getD store (location (place rs x)) 0)) none
+stored rs location store x = cond (held rs x) (some (getD store (location (place rs x)) 0)) none
+
+-- a value is known there exactly if the records hold the address
+pub known-held : (h : Bool) (u : ℕ) → h ≡ isKnown (cond h (some u) none)
+known-held true u = refl
+known-held false u = refl
 
 -- the memory of an open command is what it holds
 abbrev pub Known : CommandState → (location : ℕ → ℕ) → (store : List ℕ) → Memory → (c x : ℕ) → Type 0
@@ -73,7 +77,7 @@ module _ (m : Machine) (c : ℕ) (next : CommandState) (bytes : List ℕ) (F : F
       K = kept (m .state) d (S .state .whole)
 
       go : (b : Bool) → held rs x ≡ b → storedIn changed rs d x ≡ storedIn m rs d x
-      go true h = rw h (ap first (byte-other F d (place rs x) apart (omega (arith, place-below 0 rs x (K .up) h, K .small))))
+      go true h = rw h (ap some (byte-other F d (place rs x) apart (omega (arith, place-below 0 rs x (K .up) h, K .small))))
       go false h = rw h
 
   known-replaced : (d x : ℕ) → KnownIn changed (commandOf (changed .state) d) mem′ d x
@@ -92,46 +96,64 @@ module _ (m : Machine) (c : ℕ) (next : CommandState) (bytes : List ℕ) (F : F
   sound-replaced : Sound changed mem′
   sound-replaced = record { state = whole-replaced F (S .state); known = known-replaced; size = λ d o. length-replaced F ∙ F .size }
 
--- Fetch: what the command holds then is what its memory then has.
+-- A span held: what the command holds then is what its memory then has.
 
-merge : (h i : Bool) (u w : ℕ) → cond i (orElse (cond h (first u) none) w) (cond h (first u) none) ≡ cond (h || i) (first (cond h u w)) none
-merge true true u w = refl
-merge true false u w = refl
-merge false true u w = refl
-merge false false u w = refl
-
-module _ (m : Machine) (c a n : ℕ) (dest window : List ℕ) (F : Fetched (m .state) (length (m .store)) (length window) (length dest) c a n) where
+module _ (m : Machine) {w d : ℕ} (c a n : ℕ) (value : ℕ → ℕ) (F : Taken m w d c a n) where
   abbrev rs′ : List Record
   rs′ = grown m c a n
 
   abbrev bytes : List ℕ
-  bytes = packed m c a n window
+  bytes = packed m c a n value
 
-  abbrev fetchedInto : Machine
-  fetchedInto = replaced m c (open-with rs′) bytes
-
-  -- what the command sees at an address, of its own bytes and of the window
-  abbrev seen : ℕ → ℕ
-  seen = sees (old m c) (location (m .state) c) (m .store) (byteAt window)
-
-  fetch-stored : (x : ℕ) → storedIn fetchedInto rs′ c x ≡ cond (held rs′ x) (first (seen x)) none
-  fetch-stored x = go (held rs′ x) refl
+  grown-stored : (x : ℕ) → storedIn (grownInto m c a n value) rs′ c x ≡ cond (held rs′ x) (some (value x)) none
+  grown-stored x = go (held rs′ x) refl
     where
-      go : (b : Bool) → held rs′ x ≡ b → storedIn fetchedInto rs′ c x ≡ cond (held rs′ x) (first (seen x)) none
+      go : (b : Bool) → held rs′ x ≡ b → storedIn (grownInto m c a n value) rs′ c x ≡ cond (held rs′ x) (some (value x)) none
       go true h =
-          let up = ascending-grown m c a n dest window F in
-          let size = length-packed m c a n dest window F in
+          let up = ascending-grown m c a n value F in
+          let size = length-packed m c a n value F in
           let near : place rs′ x < length bytes = omega (arith, place-below 0 rs′ x up h) in
-          let fits : partStart c + length bytes ≤ length (m .store) = omega (arith, total-grown m c a n dest window F, F .command, F .size) in
-          rw h (ap first (overwrite-inside (m .store) bytes (partStart c) fits (place rs′ x) 0 near ∙ at-place seen 0 0 rs′ x up h))
+          let fits : partStart c + length bytes ≤ length (m .store) = omega (arith, total-grown m c a n value F, F .command, F .size) in
+          rw h (ap some (overwrite-inside (m .store) bytes (partStart c) fits (place rs′ x) 0 near ∙ at-place value 0 0 rs′ x up h))
       go false h = rw h
 
-  fetch-known : (mem : Memory) → Sound m mem → (x : ℕ)
-      → remember mem (deedOf true (fetch c a n dest window)) c x ≡ storedIn fetchedInto rs′ c x
+  sound-grown : (mem mem′ : Memory) → Sound m mem → ((e x : ℕ) → e ≢ c → mem′ e x ≡ mem e x)
+      → ((x : ℕ) → mem′ c x ≡ cond (held rs′ x) (some (value x)) none) → Sound (grownInto m c a n value) mem′
+  sound-grown mem mem′ S others own =
+      sound-replaced m c (open-with rs′) bytes (packed-fits m c a n value F) mem mem′ S others
+      (λ x o. rw (records-open-with rs′) (own x ∙ sym (grown-stored x)))
+
+-- what is held of an address stays under a fetch, and not under a write
+fetch-merge : (h i : Bool) (u w : ℕ) → cond i (orElse (cond h (some u) none) w) (cond h (some u) none) ≡ cond (h || i) (some (cond h u w)) none
+fetch-merge true true u w = refl
+fetch-merge true false u w = refl
+fetch-merge false true u w = refl
+fetch-merge false false u w = refl
+
+own-merge : (h i : Bool) (u w : ℕ) → cond i (some w) (cond h (some u) none) ≡ cond (h || i) (some (cond i w (cond h u w))) none
+own-merge true true u w = refl
+own-merge true false u w = refl
+own-merge false true u w = refl
+own-merge false false u w = refl
+
+module _ (m : Machine) (mem : Memory) (S : Sound m mem) (c a n : ℕ) (opened : isOpen (m .state) c ≡ true) where
+  -- the byte in the store for an address that the command holds
+  abbrev kept-byte : ℕ → ℕ
+  kept-byte x = getD (m .store) (partStart c + place (old m c) x) 0
+
+  fetch-known : (window : List ℕ) (x : ℕ)
+      → remember mem (fetched c a n window) c x ≡ cond (held (grown m c a n) x) (some (found m c window x)) none
   unfolding remember
-  fetch-known mem S x =
-      rw (eq-eqb c c refl, S .known c x (F .opened), fetch-stored x, held-joined (old m c) a n x)
-      (merge (held (old m c) x) (inSpan a n x) (getD (m .store) (partStart c + place (old m c) x) 0) (getD window x 0))
+  fetch-known window x =
+      rw (eq-eqb c c refl, S .known c x opened, held-joined (old m c) a n x)
+      (fetch-merge (held (old m c) x) (inSpan a n x) (kept-byte x) (getD window x 0))
+
+  own-known : (bytes : List ℕ) → length bytes ≡ n → (x : ℕ)
+      → remember mem (wrote c a bytes) c x ≡ cond (held (grown m c a n) x) (some (put m c a bytes x)) none
+  unfolding remember
+  own-known bytes size x =
+      rw (eq-eqb c c refl, S .known c x opened, held-joined (old m c) a n x, size)
+      (own-merge (held (old m c) x) (inSpan a n x) (kept-byte x) (from a bytes x))
 
 -- Every call keeps it.
 
@@ -144,15 +166,17 @@ sound-after m mem (begin c) true e S =
     rw (begin-after m c e)
     (sound-replaced m c (open-with []) zeros (begin-fits m c e) mem _ S (λ d x apart. rw (ne-eqb d c apart)) (λ x o. rw (eq-eqb c c refl)))
 sound-after m mem (fetch c a n dest window) true e S =
-    let F = fetched (m .state) (length (m .store)) (length window) (length dest) c a n e in
+    let F = fetch-taken m c a n dest window e in
     rw (fetch-after m c a n dest window e)
-    (sound-replaced m c (open-with (grown m c a n)) (packed m c a n window) (packed-fits m c a n dest window F) mem _ S
-    (λ d x apart. rw (ne-eqb d c apart))
-    (λ x o. rw (records-open-with (grown m c a n)) (fetch-known m c a n dest window F mem S x)))
+    (sound-grown m c a n (found m c window) F mem _ S (λ d x apart. rw (ne-eqb d c apart)) (fetch-known m mem S c a n (F .opened) window))
 sound-after m mem (end c) true e S =
     rw (end-after m c e) (sound-replaced m c closed zeros (end-fits m c e) mem mem S (λ d x apart. refl) (λ x o. absurd (false≢true o)))
 sound-after m mem (hostWrite a bytes window) true e S = S
-sound-after m mem (ownWrite c a bytes window) true e S = S
+sound-after m mem (ownWrite c a bytes window) true e S =
+    let F = own-taken m c a bytes window e in
+    rw (own-after m c a bytes window e)
+    (sound-grown m c a (length bytes) (put m c a bytes) F mem _ S (λ d x apart. rw (ne-eqb d c apart))
+    (own-known m mem S c a (length bytes) (F .opened) bytes refl))
 sound-after m mem (show c i) true e S = S
 
 -- and so does every list

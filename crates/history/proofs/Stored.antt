@@ -1,5 +1,5 @@
--- After every list the records of an open command are the runs of what it has fetched since its begin, and the bytes of these addresses
--- stand packed at the front of its part.
+-- After every list the records of an open command are the runs of what it has fetched or written since its begin, and the bytes of these
+-- addresses stand packed at the front of its part.
 use Prim.Native.Nat.{ℕ, _+_, _≤_}
 use native.Mathlib.Omega.{arith}
 use mathlib.Core.Path.{_≡_, refl, ap, sym, _∙_}
@@ -13,42 +13,51 @@ use Rattle.state.specs.State.{commandOf, recordsOf, isOpen}
 use Rattle.state.proofs.Laws.{map-held, packed-back}
 use Rattle.state.proofs.Commands.{Kept, kept, open-below}
 use Rattle.state.proofs.Runs.{runs-same, records-runs}
-use Rattle.store.specs.Store.{partStart, packedBytes}
+use Rattle.store.specs.Store.{partStart, packedBytes, from}
 use Rattle.store.proofs.Parts.{packed-part}
 use Rattle.cache.specs.Runs.{Machine, start, ran}
-use Rattle.history.specs.Journal.{Deed, began, fetched, ended, other, deed, journal, backwards}
-use Rattle.history.specs.Firsts.{Value, none, first, orElse, Memory, remember, memory, isKnown, finds, fetchedSince, recall}
+use Rattle.history.specs.Journal.{Event, Deed, began, fetched, wrote, ended, other, deed, journal, backwards}
+use Rattle.history.specs.Firsts.{Value, none, some, orElse, Memory, remember, memory, isKnown, recall}
+use Rattle.history.specs.Firsts.{writeIn, lastWrite, fetchIn, firstFetch, rather, heldSince}
 use Rattle.history.specs.Claims.{MemorySearch, RecordsTold, StoredBytes}
-use Rattle.history.proofs.Sound.{Sound, sound-start, sound-ran}
+use Rattle.history.proofs.Sound.{known-held, Sound, sound-start, sound-ran}
 
--- The memory and the search
+-- The memory and the two searches
 
-known-step : (mem : Memory) (d : Deed) (c x : ℕ) → isKnown (remember mem d c x) ≡ finds d c x (isKnown (mem c x))
-unfolding remember finds
-known-step mem (began d) c x = go (eqb c d)
+-- one event more
+search-step : (v : Value) (d : Deed) (c x : ℕ) (w f : Value) → v ≡ rather w f → (mem : Memory) → mem c x ≡ v
+    → remember mem d c x ≡ rather (writeIn d c x w) (fetchIn d c x f)
+unfolding remember writeIn fetchIn
+search-step v (began d) c x w f is mem here = rw here (go (eqb c d))
   where
-    go : (b : Bool) → isKnown (cond b none (mem c x)) ≡ cond b false (isKnown (mem c x))
+    go : (b : Bool) → cond b none v ≡ rather (cond b none w) (cond b none f)
     go true = refl
-    go false = refl
-known-step mem (fetched d a n window) c x = go (eqb c d && inSpan a n x) (mem c x)
+    go false = is
+search-step v (fetched d a n window) c x w f is mem here = rw (here, is) (go (eqb c d && inSpan a n x) w)
   where
-    go : (b : Bool) (v : Value) → isKnown (cond b (orElse v (getD window x 0)) v) ≡ cond b true (isKnown v)
+    go : (b : Bool) (w : Value) → cond b (orElse (rather w f) (getD window x 0)) (rather w f) ≡ rather w (cond b (orElse f (getD window x 0)) f)
     go true none = refl
-    go true (first u) = refl
-    go false v = refl
-known-step mem (ended d) c x = refl
-known-step mem other c x = refl
+    go true (some u) = refl
+    go false w = refl
+search-step v (wrote d a bytes) c x w f is mem here = rw here (go (eqb c d && inSpan a (length bytes) x))
+  where
+    go : (b : Bool) → cond b (some (from a bytes x)) v ≡ rather (cond b (some (from a bytes x)) w) f
+    go true = refl
+    go false = is
+search-step v (ended d) c x w f is mem here = here ∙ is
+search-step v other c x w f is mem here = here ∙ is
 
 pub memory-search : MemorySearch
-unfolding memory fetchedSince
+unfolding memory lastWrite firstFetch
 memory-search [] c x = refl
-memory-search (e ∷ past) c x = known-step (memory past) (deed e) c x ∙ ap (finds (deed e) c x) (memory-search past c x)
+memory-search (e ∷ past) c x =
+    search-step (memory past c x) (deed e) c x (lastWrite past c x) (firstFetch past c x) (memory-search past c x) (memory past) refl
+
+-- so it knows an address exactly if the command has fetched or written it
+pub memory-held : (past : List Event) (c x : ℕ) → isKnown (memory past c x) ≡ heldSince past c x
+memory-held past c x = ap isKnown (memory-search past c x)
 
 -- Records and bytes
-
-known-held : (h : Bool) (u : ℕ) → h ≡ isKnown (cond h (first u) none)
-known-held true u = refl
-known-held false u = refl
 
 module _ (m : Machine) (mem : Memory) (S : Sound m mem) (c : ℕ) (o : isOpen (m .state) c ≡ true) where
   abbrev rs : List Record
@@ -77,7 +86,7 @@ records-told store ps c o =
     let S = sound-ran [] (start store) ps (sound-start store) in
     let rs = recordsOf (m .state) c in
     records-runs rs (K m (memory past) S c o .up)
-    ∙ runs-same (held rs) (fetchedSince past c) 0 65536 (λ x h. held-known m (memory past) S c o x ∙ memory-search past c x)
+    ∙ runs-same (held rs) (heldSince past c) 0 65536 (λ x h. held-known m (memory past) S c o x ∙ memory-held past c x)
 
 pub stored-bytes : StoredBytes
 stored-bytes store ps c o =

@@ -26,16 +26,15 @@ use Rattle.state.proofs.Commands.{command-same, command-other, records-open-wit
 use Rattle.state.proofs.Runs.{runs-same, records-runs}
 use Rattle.store.specs.Store.{partStart}
 use Rattle.store.proofs.Parts.{packed-part}
-use Rattle.cache.proofs.Accepted.{Fetched, fetched}
 use Rattle.cache.specs.Runs.{Call, begin, fetch, end, hostWrite, ownWrite, show, Machine, start, says, after, along, ran}
 use Rattle.cache.proofs.Unchanged.{refused-same}
 use Rattle.history.specs.Journal.{Event, event, journal, backwards, deedOf}
-use Rattle.history.specs.Firsts.{Value, none, first, Memory, remember, memory, isKnown, recall}
+use Rattle.history.specs.Firsts.{Value, none, some, Memory, remember, memory, isKnown, recall}
 use Rattle.history.specs.Stores.{Phase, unbegun, running, finished, phaseBy, phase, ifAny, heldOwed, partBy, partOwed}
 use Rattle.history.specs.Claims.{partIn, StoreTold}
 use Rattle.history.proofs.Replaced.{replaced, Fits, length-replaced, part-other}
-use Rattle.history.proofs.Effects.{old, grown, packed, zeros, begin-after, end-after, fetch-after}
-use Rattle.history.proofs.Effects.{begin-fits, end-fits, packed-fits, length-packed, total-grown}
+use Rattle.history.proofs.Effects.{old, grown, packed, zeros, found, put, grownInto, begin-after, end-after, fetch-after, own-after}
+use Rattle.history.proofs.Effects.{begin-fits, end-fits, Taken, fetch-taken, own-taken, packed-fits, length-packed, total-grown}
 use Rattle.history.proofs.Sound.{Sound, sound-start, sound-after}
 use Rattle.history.proofs.Stored.{K, held-known, part-fits, part-known}
 
@@ -91,7 +90,7 @@ known-runs f x (suc n) = go (f x) refl (known-runs f (suc x) n)
     go : (v : Value) → f x ≡ v → flatMap (λ y. ifAny (f y)) (span (suc x) n) ≡ map (λ y. recall (f y)) (addresses rest)
         → ifAny (f x) ++ flatMap (λ y. ifAny (f y)) (span (suc x) n) ≡ map (λ y. recall (f y)) (addresses (runsFrom (λ y. isKnown (f y)) x (suc n)))
     go none e ih = rw e ih
-    go (first v) e ih = rw (e, front-addresses x rest) (ap₂ _∷_ (sym (ap recall e)) ih)
+    go (some v) e ih = rw (e, front-addresses x rest) (ap₂ _∷_ (sym (ap recall e)) ih)
 
 -- The part of a command after bytes are written to its front: all of it if they are as many, and behind fewer it stays.
 
@@ -194,28 +193,32 @@ module _ (store : List ℕ) (m : Machine) (mem : Memory) (phases : ℕ → Phase
       behind = ap (λ (j : Machine). drop storeSize (j .store)) is ∙ behind-replaced;
     }
 
-  -- After a fetch there are zeros behind the held bytes, as there were before it behind fewer.
-  abbrev fetchedPart : (c a n : ℕ) → List ℕ → List ℕ
-  fetchedPart c a n window = partIn (replaced m c (open-with (grown m c a n)) (packed m c a n window)) c
+  -- Where a span is held there are zeros behind the held bytes, as there were before it behind fewer.
+  module _ {w d : ℕ} (c a n : ℕ) (value : ℕ → ℕ) (F : Taken m w d c a n) where
+    abbrev grownPart : List ℕ
+    grownPart = partIn (grownInto m c a n value) c
 
-  fetch-stands :
-      (c a n : ℕ) (dest window : List ℕ) → Fetched (m .state) (length (m .store)) (length window) (length dest) c a n
-      → Stands (open-with (grown m c a n)) (givenPart store c) (fetchedPart c a n window) (phases c)
-  fetch-stands c a n dest window F = go (T .stands c)
-    where
-      go : {p : Phase} → Stands (commandOf (m .state) c) (givenPart store c) (partIn m c) p
-          → Stands (open-with (grown m c a n)) (givenPart store c) (fetchedPart c a n window) p
-      go (as-given o same) = absurd (false≢true (sym o ∙ F .opened))
-      go (zero-all o same) = absurd (false≢true (sym o ∙ F .opened))
-      go (zero-behind o behind) =
-          let more = total-joined (old m c) a n (kept (m .state) c (F .whole) .up) in
-          let small = total-grown m c a n dest window F in
-          let fits = packed-fits m c a n dest window F in
-          zero-behind refl
-          (rw (records-open-with (grown m c a n))
-          (part-behind (m .store) (packed m c a n window) (partStart c) heldLimit (part-inside c _ _ fits) (total (grown m c a n))
-          (length-packed m c a n dest window F) small
-          ∙ zeros-still (partIn m c) heldLimit (total (old m c)) (fresh (old m c) a n) (total (grown m c a n)) more small behind))
+    grown-stands : Stands (open-with (grown m c a n)) (givenPart store c) grownPart (phases c)
+    grown-stands = go (T .stands c)
+      where
+        go : {p : Phase} → Stands (commandOf (m .state) c) (givenPart store c) (partIn m c) p
+            → Stands (open-with (grown m c a n)) (givenPart store c) grownPart p
+        go (as-given o same) = absurd (false≢true (sym o ∙ F .opened))
+        go (zero-all o same) = absurd (false≢true (sym o ∙ F .opened))
+        go (zero-behind o behind) =
+            let more = total-joined (old m c) a n (kept (m .state) c (F .whole) .up) in
+            let small = total-grown m c a n value F in
+            let fits = packed-fits m c a n value F in
+            zero-behind refl
+            (rw (records-open-with (grown m c a n))
+            (part-behind (m .store) (packed m c a n value) (partStart c) heldLimit (part-inside c _ _ fits) (total (grown m c a n))
+            (length-packed m c a n value F) small
+            ∙ zeros-still (partIn m c) heldLimit (total (old m c)) (fresh (old m c) a n) (total (grown m c a n)) more small behind))
+
+    told-grown : (k : Machine) (mem′ : Memory) → k ≡ grownInto m c a n value → Sound k mem′ → Told store k mem′ phases
+    told-grown k mem′ grows S =
+        told-replaced c (open-with (grown m c a n)) (packed m c a n value) (packed-fits m c a n value F) k mem′ phases grows S
+        (λ d apart. refl) grown-stands
 
 -- Every call keeps it.
 
@@ -229,16 +232,16 @@ told-after store m mem phases (begin c) true e T =
     told-replaced store m mem phases T c (open-with []) zeros fits _ _ _ (begin-after m c e) (sound-after m mem (begin c) true e (T .sound))
     (λ d apart. rw (ne-eqb d c apart)) (rw (eq-eqb c c refl) (zero-behind refl (part-zeroed store m mem phases T c (open-with []) zeros fits refl)))
 told-after store m mem phases (fetch c a n dest window) true e T =
-    let F = fetched (m .state) (length (m .store)) (length window) (length dest) c a n e in
-    told-replaced store m mem phases T c (open-with (grown m c a n)) (packed m c a n window) (packed-fits m c a n dest window F) _ _ _
-    (fetch-after m c a n dest window e) (sound-after m mem (fetch c a n dest window) true e (T .sound)) (λ d apart. refl)
-    (fetch-stands store m mem phases T c a n dest window F)
+    told-grown store m mem phases T c a n (found m c window) (fetch-taken m c a n dest window e) _ _ (fetch-after m c a n dest window e)
+    (sound-after m mem (fetch c a n dest window) true e (T .sound))
 told-after store m mem phases (end c) true e T =
     let fits = end-fits m c e in
     told-replaced store m mem phases T c closed zeros fits _ _ _ (end-after m c e) (sound-after m mem (end c) true e (T .sound))
     (λ d apart. rw (ne-eqb d c apart)) (rw (eq-eqb c c refl) (zero-all refl (part-zeroed store m mem phases T c closed zeros fits refl)))
 told-after store m mem phases (hostWrite a bytes window) true e T = T
-told-after store m mem phases (ownWrite c a bytes window) true e T = T
+told-after store m mem phases (ownWrite c a bytes window) true e T =
+    told-grown store m mem phases T c a (length bytes) (put m c a bytes) (own-taken m c a bytes window e) _ _ (own-after m c a bytes window e)
+    (sound-after m mem (ownWrite c a bytes window) true e (T .sound))
 told-after store m mem phases (show c i) true e T = T
 
 told-ran :

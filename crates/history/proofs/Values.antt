@@ -10,7 +10,7 @@ use borrow.Author.Tests.{leb-true, ltb-true, eqb-true, eqb-false}
 use Rattle.octets.proofs.Lists.{and-left, and-right, cons-head, cons-tail}
 use Rattle.state.specs.Records.{inSpan, span}
 use Rattle.history.specs.Journal.{fetched}
-use Rattle.history.specs.Firsts.{Value, none, first, orElse, Memory, remember, recall, First, firstIf, firstsAmong}
+use Rattle.history.specs.Firsts.{Value, none, some, orElse, Memory, remember, recall, First, firstIf, firstsAmong}
 
 abbrev pub value : (ℕ → Value) → List ℕ → ℕ → Value
 value known window x = orElse (known x) (getD window x 0)
@@ -18,18 +18,18 @@ value known window x = orElse (known x) (getD window x 0)
 -- of one address
 
 value-head : (k : Value) (f g : First) (fs gs : List First) → firstIf k f fs ≡ firstIf k g gs → (orElse k (f .value) ≡ orElse k (g .value)) × (fs ≡ gs)
-value-head none f g fs gs e = (ap (λ (h : First). first (h .value)) (cons-head e), cons-tail e)
-value-head (first u) f g fs gs e = (refl, e)
+value-head none f g fs gs e = (ap (λ (h : First). some (h .value)) (cons-head e), cons-tail e)
+value-head (some u) f g fs gs e = (refl, e)
 
 same-first :
     (k : Value) (x u v : ℕ) (fs gs : List First) → orElse k u ≡ orElse k v → fs ≡ gs
     → firstIf k (record { address = x; value = u }) fs ≡ firstIf k (record { address = x; value = v }) gs
 same-first none x u v fs gs e q = let same : u ≡ v = cc in cc
-same-first (first t) x u v fs gs e q = q
+same-first (some t) x u v fs gs e q = q
 
 same-recall : (k : Value) (u v : ℕ) → recall (orElse k u) ≡ recall (orElse k v) → orElse k u ≡ orElse k v
-same-recall none u v e = ap first e
-same-recall (first t) u v e = refl
+same-recall none u v e = ap some e
+same-recall (some t) u v e = refl
 
 -- of a list of addresses
 

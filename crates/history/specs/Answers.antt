@@ -1,6 +1,6 @@
 -- Every answer, told from the calls: what a call is owed is told from the events before it, from its numbers and from the lengths of what it
--- is lent. No state, no record and no byte of the store enters, nor the answer that it was given. (01 is the agreed scope; docs/RULES.md
--- has its rules.)
+-- is lent. No state, no record and no byte of the store enters, nor the answer that it was given. (01 is the agreed scope and 02 the agreed
+-- changes; docs/RULES.md has their rules.)
 use Prim.Native.Nat.{ℕ, _+_, _-_, _<_}
 use mathlib.Core.Path.{_≡_}
 use mathlib.Core.List.{List, [], _∷_, _++_}
@@ -20,7 +20,7 @@ use Rattle.state.specs.Verdict.{Reply, refused, replied, Check, _⇒_, verdict,
 use Rattle.state.specs.Checks.{lengthTooLong, commandTooHigh, windowTooLong, storeWrongSize, outsideWindow, bufferTooShort}
 use Rattle.cache.specs.Runs.{Call, begin, fetch, end, hostWrite, ownWrite, show, start, along, ran, says}
 use Rattle.history.specs.Journal.{Event, journal, told, backwards}
-use Rattle.history.specs.Firsts.{fetchedSince}
+use Rattle.history.specs.Firsts.{heldSince}
 use Rattle.history.specs.Stores.{Phase, unbegun, running, finished, phase}
 use Rattle.history.specs.Counts.{freshSince}
 
@@ -34,23 +34,24 @@ abbrev pub openSince : List Event → ℕ → Bool
 openSince past c = isRunning (phase past c)
 
 module _ (past : List Event) (c : ℕ) where
-  -- the addresses that the command has fetched since its begin: how many of all addresses, and how many of a span
-  abbrev pub fetchedCount : ℕ
-  fetchedCount = count (fetchedSince past c) (span 0 windowLimit)
+  -- the addresses that the command has fetched or written since its begin: how many of all addresses, and how many of a span
+  abbrev pub heldCount : ℕ
+  heldCount = count (heldSince past c) (span 0 windowLimit)
 
   abbrev pub replayCount : (a n : ℕ) → ℕ
-  replayCount a n = count (fetchedSince past c) (span a n)
+  replayCount a n = count (heldSince past c) (span a n)
 
-  -- and how many of a span it has not fetched: its first fetches, if the span is fetched now
+  -- and how many of a span it has neither fetched nor written: its first fetches, if the span is fetched now, or its new addresses, if the span
+  -- is written now
   abbrev pub firstCount : (a n : ℕ) → ℕ
-  firstCount a n = count (λ x. not (fetchedSince past c x)) (span a n)
+  firstCount a n = count (λ x. not (heldSince past c x)) (span a n)
 
-  -- the longest unbroken runs of the addresses that it has fetched, which are its records, and what they become with a span
+  -- the longest unbroken runs of these addresses, which are its records, and what they become with a span
   abbrev pub runsOf : List Record
-  runsOf = runs (fetchedSince past c)
+  runsOf = runs (heldSince past c)
 
   abbrev pub runsWith : (a n : ℕ) → List Record
-  runsWith a n = runs (λ x. fetchedSince past c x || inSpan a n x)
+  runsWith a n = runs (λ x. heldSince past c x || inSpan a n x)
 
   -- 21: the command is not open
   abbrev pub notOpen : Check
@@ -60,9 +61,9 @@ module _ (past : List Event) (c : ℕ) where
   abbrev pub alreadyOpen : Check
   alreadyOpen = openSince past c ⇒ number CommandAlreadyOpen
 
-  -- 23: with the first fetches of the span it would have fetched more than 4,096 addresses
+  -- 23: with those of the span it would have more than 4,096 addresses
   abbrev pub bytesFull : (a n : ℕ) → Check
-  bytesFull a n = ltb heldLimit (fetchedCount + firstCount a n) ⇒ number TooManyBytes
+  bytesFull a n = ltb heldLimit (heldCount + firstCount a n) ⇒ number TooManyBytes
 
   -- 24: with the span there would be more than 64 runs
   abbrev pub recordsFull : (a n : ℕ) → Check
@@ -73,11 +74,15 @@ module _ (past : List Event) (c : ℕ) where
   noSuchRun i = leb (length runsOf) i ⇒ number NoSuchRecord
 
 module _ (storeLen : ℕ) (past : List Event) where
-  -- the checks of a fetch below 23: 4, 6 to 10, 21
+  -- the checks below 23 of a fetch: 4, 6 to 10, 21; and of an own write: 4, 6 to 9, 21
   abbrev pub lowerChecks : (c a n destLen windowLen : ℕ) → List Check
   lowerChecks c a n destLen windowLen =
       lengthTooLong n ∷ commandTooHigh c ∷ windowTooLong windowLen ∷ storeWrongSize storeLen ∷ outsideWindow windowLen a n
       ∷ bufferTooShort destLen n ∷ notOpen past c ∷ []
+
+  abbrev pub lowerWriteChecks : (c a n windowLen : ℕ) → List Check
+  lowerWriteChecks c a n windowLen =
+      lengthTooLong n ∷ commandTooHigh c ∷ windowTooLong windowLen ∷ storeWrongSize storeLen ∷ outsideWindow windowLen a n ∷ notOpen past c ∷ []
 
   -- What a call is owed: the number of the first check that applies, in the order of 01's numbers, and the reply where none does. 20 is in no
   -- list, so it is never given.
@@ -90,17 +95,16 @@ module _ (storeLen : ℕ) (past : List Event) where
       (replied (firstCount past c a n ∷ replayCount past c a n ∷ []))
   -- 6, 8, 21; the number of records and of distinct bytes
   answerOwed (end c) =
-      verdict (commandTooHigh c ∷ storeWrongSize storeLen ∷ notOpen past c ∷ []) (replied (length (runsOf past c) ∷ fetchedCount past c ∷ []))
+      verdict (commandTooHigh c ∷ storeWrongSize storeLen ∷ notOpen past c ∷ []) (replied (length (runsOf past c) ∷ heldCount past c ∷ []))
   -- 4, 7, 9; the number of bytes
   answerOwed (hostWrite a bytes window) =
       verdict (lengthTooLong (length bytes) ∷ windowTooLong (length window) ∷ outsideWindow (length window) a (length bytes) ∷ [])
       (replied (length bytes ∷ []))
-  -- 4, 6, 7, 9, 21; the number of bytes
+  -- 4, 6 to 9, 21, 23, 24; the number of bytes, and that of the addresses not held before
   answerOwed (ownWrite c a bytes window) =
-      verdict
-      (lengthTooLong (length bytes) ∷ commandTooHigh c ∷ windowTooLong (length window) ∷ outsideWindow (length window) a (length bytes)
-      ∷ notOpen past c ∷ [])
-      (replied (length bytes ∷ []))
+      let n = length bytes in
+      verdict (lowerWriteChecks c a n (length window) ++ bytesFull past c a n ∷ recordsFull past c a n ∷ [])
+      (replied (n ∷ firstCount past c a n ∷ []))
   -- 6, 21, 25; start and length
   answerOwed (show c i) =
       let r = getD (runsOf past c) i noRecord in
@@ -133,17 +137,17 @@ answersGiven storeLen past (p ∷ ps) =
 abbrev pub CallsGiveAnswers : Type 0
 CallsGiveAnswers = (store : List ℕ) (ps : List Call) → along says (start store) ps ≡ answersGiven (length store) [] ps
 
--- how many of a command's 4,096 places are spare: one less for each address that it has fetched since its begin
+-- how many of a command's 4,096 places are spare: one less for each address that it has fetched or written since its begin
 abbrev pub spare : List Event → (c : ℕ) → ℕ
-spare past c = heldLimit - fetchedCount past c
+spare past c = heldLimit - heldCount past c
 
 -- The order's question what is spare, and how two counts of it meet. One counts every place that a command has, 4,096; the other counts the
 -- places that are not handed out yet. They differ by what the replies since the command's begin have handed out.
 pub record Meets (store : List ℕ) (ps : List Call) (c : ℕ) : Type 0 where
-  -- the bytes that its records hold are as many as the addresses that it has fetched since its begin
-  pub held : total (recordsOf (ran (start store) ps .state) c) ≡ fetchedCount (eventsOf store ps) c
-  -- and these are as many as the fresh counts replied to it since its begin come to
-  pub handedOut : fetchedCount (eventsOf store ps) c ≡ freshSince (eventsOf store ps) c
+  -- the bytes that its records hold are as many as the addresses that it has fetched or written since its begin
+  pub held : total (recordsOf (ran (start store) ps .state) c) ≡ heldCount (eventsOf store ps) c
+  -- and these are as many as the replies to its fetches and own writes since its begin come to
+  pub handedOut : heldCount (eventsOf store ps) c ≡ freshSince (eventsOf store ps) c
   -- the two counts meet: every place is spare, or was handed out by a reply since the begin
   pub meet : freshSince (eventsOf store ps) c + spare (eventsOf store ps) c ≡ heldLimit
   -- a fetch to which no lower number applies is answered 23 exactly if it has more first fetches than places are spare
@@ -152,6 +156,12 @@ pub record Meets (store : List ℕ) (ps : List Call) (c : ℕ) : Type 0 where
       → applying (lowerChecks (length store) (eventsOf store ps) c a n (length dest) (length window)) ≡ []
       → (says (ran (start store) ps) (fetch c a n dest window) ≡ refused (number TooManyBytes))
       ↔ (spare (eventsOf store ps) c < firstCount (eventsOf store ps) c a n)
+  -- and so is an own write, of which the addresses count that are not held
+  pub fullWrite :
+      (a : ℕ) (bytes window : List ℕ)
+      → applying (lowerWriteChecks (length store) (eventsOf store ps) c a (length bytes) (length window)) ≡ []
+      → (says (ran (start store) ps) (ownWrite c a bytes window) ≡ refused (number TooManyBytes))
+      ↔ (spare (eventsOf store ps) c < firstCount (eventsOf store ps) c a (length bytes))
 
 -- So it is after every list, for every open command.
 abbrev pub CountsMeet : Type 0

@@ -4,7 +4,7 @@
 use Prim.Native.Nat.{ℕ, _+_, _-_, _<_}
 use mathlib.Core.Path.{_≡_}
 use mathlib.Core.List.{List, [], _∷_, map}
-use mathlib.Core.Bool.{Bool, true, false, not}
+use mathlib.Core.Bool.{Bool, true, false, not, _&&_}
 use mathlib.Core.Logic.{_↔_, _≢_}
 use lib.Dec.{eqb}
 use lib.ListN.{length, getD, take, drop, replicate}
@@ -16,39 +16,42 @@ use Rattle.state.specs.State.{holds, hasShape, commandOf, recordsOf, isOpen}
 use Rattle.state.specs.Words.{stateOf}
 use Rattle.state.specs.Verdict.{refused, replied, accepted}
 use Rattle.cache.specs.Claims.{Unchanged}
-use Rattle.store.specs.Store.{partStart, location, packedBytes}
+use Rattle.store.specs.Store.{partStart, location, packedBytes, from}
 use Rattle.cache.specs.Runs.{Call, begin, fetch, end, hostWrite, ownWrite, show, Machine, start, along, ran, says, stateAfter, storeAfter, after}
-use Rattle.cache.specs.Runs.{destAfter, delivers}
-use Rattle.history.specs.Journal.{Event, event, journal, told, backwards, Deed, began, fetched, ended, other, deed}
-use Rattle.history.specs.Firsts.{Memory, memory, isKnown, fetchedSince, firsts, recall, owed}
+use Rattle.cache.specs.Runs.{destAfter, windowAfter, delivers}
+use Rattle.history.specs.Journal.{Event, event, journal, told, backwards, Deed, began, fetched, wrote, ended, other, deed}
+use Rattle.history.specs.Firsts.{Memory, memory, valueSince, heldSince, firsts, recall, owed}
 use Rattle.history.specs.Counts.{countsReplied, countsOwed, bytesReplied, sumOwed}
 use Rattle.history.specs.Stores.{storeOwed}
 
--- Demand 2. The delivery rule: the bytes delivered at each call are those that the first fetches since the command's begin saw.
+-- Demand 2. The delivery rule: the bytes delivered at each call are those that the command last wrote since its begin, and elsewhere those that
+-- its first fetches saw.
 abbrev pub DeliveryRule : Type 0
 DeliveryRule = (store : List ℕ) (ps : List Call) → along delivers (start store) ps ≡ told owed [] (journal store ps)
 
--- Fresh is the number of first fetches at each accepted fetch, and replayed that of the addresses fetched before.
+-- Fresh is the number of first fetches at each accepted fetch, and replayed that of the addresses fetched or written before. An accepted own
+-- write replies its number of bytes, and that of its addresses neither fetched nor written before.
 abbrev pub CountsTie : Type 0
 CountsTie = (store : List ℕ) (ps : List Call) → told countsReplied [] (journal store ps) ≡ told countsOwed [] (journal store ps)
 
--- The byte number of each accepted end is all that the command's accepted fetches were replied as fresh since its begin, added up.
+-- The byte number of each accepted end is all that the command's accepted fetches were replied as fresh since its begin, and its own writes as
+-- not held before, added up.
 abbrev pub EndSum : Type 0
 EndSum = (store : List ℕ) (ps : List Call) → told bytesReplied [] (journal store ps) ≡ told sumOwed [] (journal store ps)
 
--- What the memory knows is what 01's search back through the calls finds.
+-- What the memory has is what the search back through the calls finds: the value last written, else the one first fetched.
 abbrev pub MemorySearch : Type 0
-MemorySearch = (past : List Event) (c x : ℕ) → isKnown (memory past c x) ≡ fetchedSince past c x
+MemorySearch = (past : List Event) (c x : ℕ) → memory past c x ≡ valueSince past c x
 
 -- Records, F-1's rule told from the calls: after every list the records of an open command are the longest unbroken runs of the addresses
--- that it has fetched since its begin.
+-- that it has fetched or written since its begin.
 abbrev pub RecordsTold : Type 0
 RecordsTold =
     (store : List ℕ) (ps : List Call) (c : ℕ) → isOpen (ran (start store) ps .state) c ≡ true
-    → recordsOf (ran (start store) ps .state) c ≡ runs (fetchedSince (backwards [] (journal store ps)) c)
+    → recordsOf (ran (start store) ps .state) c ≡ runs (heldSince (backwards [] (journal store ps)) c)
 
--- Stored bytes: after every list the front of an open command's part has, for each address of its records, the value first fetched there,
--- packed in the order of the addresses.
+-- Stored bytes: after every list the front of an open command's part has, for each address of its records, the value last written there, else
+-- the one first fetched, packed in the order of the addresses.
 abbrev pub memoryAfter : List ℕ → List Call → Memory
 memoryAfter store ps = memory (backwards [] (journal store ps))
 
@@ -68,11 +71,12 @@ abbrev pub StoreTold : Type 0
 StoreTold = (store : List ℕ) (ps : List Call) → ran (start store) ps .store ≡ storeOwed store (backwards [] (journal store ps))
 
 -- Midas' invariant: where a command fetches an address twice, and nothing between the two renews the address for it, both deliver
--- the same value there. What renews it is an accepted begin of the command, at every address. (An end between them does not matter:
--- the other fetch is accepted only after another begin.)
+-- the same value there. What renews it is an accepted begin of the command, at every address, and an accepted own write of the command
+-- there; a write elsewhere does not. (An end between them does not matter: the other fetch is accepted only after another begin.)
 abbrev pub renews : (c x : ℕ) → Deed → Bool
 renews c x (began d) = eqb c d
 renews c x (fetched d a n window) = false
+renews c x (wrote d a bytes) = eqb c d && inSpan a (length bytes) x
 renews c x (ended d) = false
 renews c x other = false
 
@@ -101,6 +105,33 @@ SameValueRule =
     (store : List ℕ) (before : List Call) (c a n : ℕ) (dest window : List ℕ) (between : List Call) (a′ n′ : ℕ) (dest′ window′ : List ℕ)
     → SameValue store before c a n dest window between a′ n′ dest′ window′
 
+-- And the value that an own write gives: where a command writes an address and then fetches it, and nothing between the two renews the address
+-- for it, the fetch delivers the written byte there.
+module _ (store : List ℕ) (before : List Call) (c a : ℕ) (bytes window : List ℕ) (between : List Call) (a′ n′ : ℕ) (dest′ window′ : List ℕ) where
+  abbrev pub theWrite : Call
+  theWrite = ownWrite c a bytes window
+
+  abbrev pub theFetch : Call
+  theFetch = fetch c a′ n′ dest′ window′
+
+  abbrev pub beforeWrite : Machine
+  beforeWrite = ran (start store) before
+
+  abbrev pub beforeFetch : Machine
+  beforeFetch = ran (after beforeWrite theWrite) between
+
+  abbrev pub WrittenValue : Type 0
+  WrittenValue =
+      (x : ℕ) → inSpan a (length bytes) x ≡ true → inSpan a′ n′ x ≡ true
+      → accepted (says beforeWrite theWrite) ≡ true → accepted (says beforeFetch theFetch) ≡ true
+      → all (λ e. not (renews c x (deed e))) (along event (after beforeWrite theWrite) between) ≡ true
+      → getD (delivers beforeFetch theFetch) (x - a′) 0 ≡ from a bytes x
+
+abbrev pub WrittenValueRule : Type 0
+WrittenValueRule =
+    (store : List ℕ) (before : List Call) (c a : ℕ) (bytes window : List ℕ) (between : List Call) (a′ n′ : ℕ) (dest′ window′ : List ℕ)
+    → WrittenValue store before c a bytes window between a′ n′ dest′ window′
+
 -- Demand 3, the equal-runs rule. What two runs have in common is all that is given but the bytes of windows and of host writes;
 -- of these it is the length.
 abbrev pub blank : List ℕ → List ℕ
@@ -115,7 +146,8 @@ common (ownWrite c a bytes window) = ownWrite c a bytes (blank window)
 common (show c i) = show c i
 
 -- Answers and states are equal after every call in either case. Answers and delivered bytes are equal exactly when the first
--- fetches agree, and then the whole stores are equal after every call.
+-- fetches agree, and then the whole stores are equal after every call. A fetch of a byte that the command holds through an own write is no
+-- first fetch, so of such a byte nothing is asked.
 pub record EqualRuns (store : List ℕ) (ps qs : List Call) : Type 0 where
   pub answers : along says (start store) ps ≡ along says (start store) qs
   pub states : along stateAfter (start store) ps ≡ along stateAfter (start store) qs
@@ -153,14 +185,14 @@ AlwaysHolds =
 abbrev pub NeverBroken : Type 0
 NeverBroken = (store : List ℕ) (ps : List Call) (p : Call) → says (ran (start store) ps) p ≢ refused 20
 
--- 01's rule that a call leaves the other commands alone, whatever state and store it is given. A begin, a fetch and an end may
--- change the command that they name; writes and show change none.
+-- 01's rule that a call leaves the other commands alone, whatever state and store it is given. A begin, a fetch, an own write and an end may
+-- change the command that they name; a host write and a show change none.
 abbrev pub mayChange : Call → ℕ → Bool
 mayChange (begin c) d = eqb c d
 mayChange (fetch c a n dest window) d = eqb c d
 mayChange (end c) d = eqb c d
 mayChange (hostWrite a bytes window) d = false
-mayChange (ownWrite c a bytes window) d = false
+mayChange (ownWrite c a bytes window) d = eqb c d
 mayChange (show c i) d = false
 
 abbrev pub partIn : Machine → ℕ → List ℕ
@@ -185,14 +217,35 @@ pub record Empty (m : Machine) (c a : ℕ) (dest window : List ℕ) : Type 0 whe
 abbrev pub EmptyFetch : Type 0
 EmptyFetch = (words store : List ℕ) (c a : ℕ) (dest window : List ℕ) → Empty (given words store) c a dest window
 
--- 01's rule on what a fetch leaves untouched: past the span the destination, and the store before the command's part and from the
--- new held count on.
+-- and the same of an own write of no bytes: it writes nothing, holds nothing, and replies 0 and 0
+pub record EmptyWritten (m : Machine) (c a : ℕ) (window : List ℕ) : Type 0 where
+  pub unchanged : Unchanged m (ownWrite c a [] window)
+  pub reply : accepted (says m (ownWrite c a [] window)) ≡ true → says m (ownWrite c a [] window) ≡ replied (0 ∷ 0 ∷ [])
+
+abbrev pub EmptyWrite : Type 0
+EmptyWrite = (words store : List ℕ) (c a : ℕ) (window : List ℕ) → EmptyWritten (given words store) c a window
+
+-- 01's rule on what a fetch leaves untouched, of an own write too: the store before the command's part and from the new held count on
+pub record StoreBeyond (m : Machine) (p : Call) (c : ℕ) : Type 0 where
+  pub before : take (partStart c) (storeAfter m p) ≡ take (partStart c) (m .store)
+  pub behind :
+      drop (partStart c + total (recordsOf (stateAfter m p) c)) (storeAfter m p)
+      ≡ drop (partStart c + total (recordsOf (stateAfter m p) c)) (m .store)
+
+-- and past the span the destination
 pub record Beyond (m : Machine) (c a n : ℕ) (dest window : List ℕ) : Type 0 where
   pub destination : drop n (destAfter m (fetch c a n dest window)) ≡ drop n dest
-  pub before : take (partStart c) (storeAfter m (fetch c a n dest window)) ≡ take (partStart c) (m .store)
-  pub behind :
-      drop (partStart c + total (recordsOf (stateAfter m (fetch c a n dest window)) c)) (storeAfter m (fetch c a n dest window))
-      ≡ drop (partStart c + total (recordsOf (stateAfter m (fetch c a n dest window)) c)) (m .store)
+  pub store : StoreBeyond m (fetch c a n dest window) c
+
+-- and of an own write the window before the span and past it
+pub record BeyondWritten (m : Machine) (c a : ℕ) (bytes window : List ℕ) : Type 0 where
+  pub below : take a (windowAfter m (ownWrite c a bytes window)) ≡ take a window
+  pub above : drop (a + length bytes) (windowAfter m (ownWrite c a bytes window)) ≡ drop (a + length bytes) window
+  pub store : StoreBeyond m (ownWrite c a bytes window) c
+
+pub record Untouched (m : Machine) : Type 0 where
+  pub fetched : (c a n : ℕ) (dest window : List ℕ) → Beyond m c a n dest window
+  pub written : (c a : ℕ) (bytes window : List ℕ) → BeyondWritten m c a bytes window
 
 abbrev pub BeyondUnchanged : Type 0
-BeyondUnchanged = (words store : List ℕ) (c a n : ℕ) (dest window : List ℕ) → Beyond (given words store) c a n dest window
+BeyondUnchanged = (words store : List ℕ) → Untouched (given words store)

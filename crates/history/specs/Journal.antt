@@ -26,10 +26,11 @@ unfoldable pub backwards : List Event → List Event → List Event
 backwards past [] = past
 backwards past (e ∷ es) = backwards (e ∷ past) es
 
--- What an event did: an accepted begin, fetch or end of a command. A refused call, a write and a show do nothing of these.
+-- What an event did: an accepted begin, fetch, own write or end of a command. A refused call, a host write and a show do nothing of these.
 pub data Deed : Type 0 where
   began : (c : ℕ) → Deed
   fetched : (c a n : ℕ) (window : List ℕ) → Deed
+  wrote : (c a : ℕ) (bytes : List ℕ) → Deed
   ended : (c : ℕ) → Deed
   other : Deed
 
@@ -39,7 +40,7 @@ deedOf true (begin c) = began c
 deedOf true (fetch c a n dest window) = fetched c a n window
 deedOf true (end c) = ended c
 deedOf true (hostWrite a bytes window) = other
-deedOf true (ownWrite c a bytes window) = other
+deedOf true (ownWrite c a bytes window) = wrote c a bytes
 deedOf true (show c i) = other
 
 abbrev pub deed : Event → Deed

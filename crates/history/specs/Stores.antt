@@ -1,5 +1,5 @@
 -- The whole store after a list of calls, told from the store at the start and from the journal: no record and no state enters it
--- (01, the agreed scope, "The book and the store" and "The calls"; docs/RULES.md has its rules).
+-- (01, the agreed scope, "The book and the store" and "The calls", and request F-3 of 02, the agreed changes; docs/RULES.md has their rules).
 use Prim.Native.Nat.{ℕ, _-_}
 use mathlib.Core.List.{List, [], _∷_, _++_, flatMap}
 use mathlib.Core.Bool.{cond}
@@ -9,8 +9,8 @@ use Rattle.octets.specs.Lists.{part}
 use Rattle.state.specs.Limits.{commandLimit, heldLimit, windowLimit, storeSize}
 use Rattle.state.specs.Records.{span}
 use Rattle.store.specs.Store.{partStart}
-use Rattle.history.specs.Journal.{Event, Deed, began, fetched, ended, other, deed}
-use Rattle.history.specs.Firsts.{Value, none, first, memory}
+use Rattle.history.specs.Journal.{Event, Deed, began, fetched, wrote, ended, other, deed}
+use Rattle.history.specs.Firsts.{Value, none, some, memory}
 
 -- what became of a command: it was never begun, it is open, or it has ended
 pub data Phase : Type 0 where
@@ -22,6 +22,7 @@ pub data Phase : Type 0 where
 unfoldable pub phaseBy : Deed → (c : ℕ) → Phase → Phase
 phaseBy (began d) c further = cond (eqb c d) running further
 phaseBy (fetched d a n window) c further = further
+phaseBy (wrote d a bytes) c further = further
 phaseBy (ended d) c further = cond (eqb c d) finished further
 phaseBy other c further = further
 
@@ -29,10 +30,11 @@ unfoldable pub phase : List Event → (c : ℕ) → Phase
 phase [] c = unbegun
 phase (e ∷ past) c = phaseBy (deed e) c (phase past c)
 
--- 01's held bytes, packed by ascending address: of each address the value first fetched there since the begin, if there is any
+-- 01's held bytes, packed by ascending address: of each address the value that was last written there since the begin, else the one first
+-- fetched, if there is any
 abbrev pub ifAny : Value → List ℕ
 ifAny none = []
-ifAny (first v) = v ∷ []
+ifAny (some v) = v ∷ []
 
 unfoldable pub heldOwed : List Event → (c : ℕ) → List ℕ
 heldOwed past c = flatMap (λ x. ifAny (memory past c x)) (span 0 windowLimit)

@@ -20,7 +20,7 @@ use Rattle.frames.specs.declared.Step.the-variants.{Begin, Fetch, End, HostWrit
 use Rattle.cache.specs.Fetch.{fetchDest}
 use Rattle.cache.specs.HostWrite.{hostWindow}
 use Rattle.cache.specs.OwnWrite.{ownWindow}
-use Rattle.cache.proofs.Accepted.{fetched, host-inside, own-inside}
+use Rattle.cache.proofs.Accepted.{fetched, host-inside, own-fetched}
 use Rattle.kinds.specs.Table.{kindOf}
 use Rattle.cache.specs.Runs.{Call, fetch, hostWrite, ownWrite, Machine, start, says, delivers, along}
 use Rattle.history.specs.Journal.{journal, told}
@@ -54,7 +54,8 @@ window-length d (Begin c) bytes = refl
 window-length d (Fetch c a n) bytes = refl
 window-length d (End c) bytes = refl
 window-length d (HostWrite a n) bytes = length-if (d .window) a bytes _ (host-inside (length (d .window)) a (length bytes))
-window-length d (OwnWrite c a n) bytes = length-if (d .window) a bytes _ (own-inside (d .machine .state) (length (d .window)) c a (length bytes))
+window-length d (OwnWrite c a n) bytes = length-if (d .window) a bytes _
+    (λ e. own-fetched (d .machine .state) (length (d .machine .store)) (length (d .window)) c a (length bytes) e .inside)
 
 dest-length : (d : Device) (s : Step) (bytes : List ℕ) → length (deviceAfter d (callOf s bytes (d .dest) (d .window)) .dest) ≡ length (d .dest)
 unfolding fetchDest

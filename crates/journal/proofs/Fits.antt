@@ -23,7 +23,7 @@ use Rattle.cache.specs.End.{endSays}
 use Rattle.cache.specs.HostWrite.{hostSays}
 use Rattle.cache.specs.OwnWrite.{ownSays}
 use Rattle.cache.specs.Runs.{Call, begin, fetch, end, hostWrite, ownWrite, show, Machine, says, destAfter, wanted, delivers}
-use Rattle.cache.proofs.Accepted.{ended, fetched}
+use Rattle.cache.proofs.Accepted.{ended, fetched, own-fetched}
 use Rattle.log.proofs.Lengths.{Short, refusal, none, one, two, line-short}
 use Rattle.device.specs.Step.{Device, callOf}
 use Rattle.device.specs.Frame.{isReadable, takenUp, stepRead, letterOf, frameCall, frameSays, frameDelivers}
@@ -62,7 +62,10 @@ says-short m (End c) bytes dest window =
     let K = kept (m .state) c (ended (m .state) (length (m .store)) c e .whole) in
     two (omega (arith, K .few, length-take (p .count) (p .records))) (omega (arith, K .small)))
 says-short m (HostWrite a n) bytes dest window = verdict-short _ _ refl (λ e. one (omega (arith, ltb-false 4096 (length bytes) (none-applies _ _ e .0))))
-says-short m (OwnWrite c a n) bytes dest window = verdict-short _ _ refl (λ e. one (omega (arith, ltb-false 4096 (length bytes) (none-applies _ _ e .0))))
+says-short m (OwnWrite c a n) bytes dest window =
+    verdict-short _ _ refl (λ e.
+    let F = own-fetched (m .state) (length (m .store)) (length window) c a (length bytes) e in
+    two (omega (arith, ltb-false 4096 (length bytes) (none-applies _ _ e .0))) (omega (arith, F .room)))
 
 -- an accepted call asks for 4,096 bytes at most, and so delivers no more
 wanted-size : (m : Machine) (p : Call) → accepted (says m p) ≡ true → wanted p ≤ 4096

@@ -17,15 +17,16 @@ use Rattle.state.specs.Verdict.{accepted}
 use Rattle.state.proofs.Places.{length-span}
 use Rattle.cache.specs.HostWrite.{hostSays, hostWindow}
 use Rattle.cache.specs.OwnWrite.{ownSays, ownWindow}
-use Rattle.cache.proofs.Accepted.{host-inside, own-inside}
+use Rattle.cache.proofs.Accepted.{host-inside, own-fetched}
 use Rattle.cache.specs.Runs.{fetch, end, Machine, says, delivers, along, ran}
-use Rattle.history.specs.Journal.{Event, event, backwards, Deed, began, fetched, ended, other, deedOf, deed}
-use Rattle.history.specs.Firsts.{Value, none, first, orElse, memory, isKnown, recall, finds, fetchedSince, owedBy}
+use Rattle.history.specs.Journal.{Event, event, backwards, Deed, began, fetched, wrote, ended, other, deedOf, deed}
+use Rattle.history.specs.Firsts.{Value, none, some, orElse, Memory, remember, memory, isKnown, recall, lastWrite, firstFetch, writeIn, fetchIn, heldSince}
+use Rattle.history.specs.Firsts.{owedBy}
 use Rattle.history.specs.Claims.{renews}
 use Rattle.history.proofs.Sound.{Sound, sound-start, sound-ran}
 use Rattle.history.proofs.Delivery.{delivers-owed}
 use Rattle.history.proofs.SameValue.{delivered-at}
-use Rattle.history.proofs.Stored.{memory-search}
+use Rattle.history.proofs.Stored.{memory-held}
 use Rattle.device.specs.Step.{Device}
 use Rattle.journal.specs.Run.{freshDevice}
 use Rattle.journal.specs.Writes.{Request, begins, fetches, ends, hostWrites, ownWrites, shows, callOn, next, made, left, pastFrom, writes}
@@ -75,7 +76,10 @@ window-next d (hostWrites a bytes) x =
     written-if (d .window) a bytes x (accepted (hostSays (length (d .window)) a (length bytes))) (host-inside (length (d .window)) a (length bytes))
 window-next d (ownWrites c a bytes) x =
     let s = d .machine .state in
-    written-if (d .window) a bytes x (accepted (ownSays s (length (d .window)) c a (length bytes))) (own-inside s (length (d .window)) c a (length bytes))
+    let storeLen = length (d .machine .store) in
+    let windowLen = length (d .window) in
+    written-if (d .window) a bytes x (accepted (ownSays s storeLen windowLen c a (length bytes)))
+    (λ e. own-fetched s storeLen windowLen c a (length bytes) e .inside)
 window-next d (shows c i) x = refl
 
 -- A list of calls
@@ -106,15 +110,15 @@ latest-stays window past (e ∷ es) x h =
 
 unknown : (v : Value) → isKnown v ≡ false → v ≡ none
 unknown none e = refl
-unknown (first v) e = absurd (false≢true (sym e))
+unknown (some v) e = absurd (false≢true (sym e))
 
 module _ (store window : List ℕ) (past : List Event) (d : Device) (S : Sound (d .machine) (memory past))
     (W : (x : ℕ) → getD (d .window) x 0 ≡ latest window past x) where
-  first-gets : (c a n x : ℕ) → accepted (says (d .machine) (callOn d (fetches c a n))) ≡ true → inSpan a n x ≡ true → fetchedSince past c x ≡ false
+  first-gets : (c a n x : ℕ) → accepted (says (d .machine) (callOn d (fetches c a n))) ≡ true → inSpan a n x ≡ true → heldSince past c x ≡ false
       → getD (delivers (d .machine) (callOn d (fetches c a n))) (x - a) 0 ≡ latest window past x
   first-gets c a n x taken near first-fetch =
       delivered-at (d .machine) (memory past) c a n (d .dest) (d .window) S taken x near
-      ∙ ap (λ (v : Value). recall (orElse v (getD (d .window) x 0))) (unknown (memory past c x) (memory-search past c x ∙ first-fetch)) ∙ W x
+      ∙ ap (λ (v : Value). recall (orElse v (getD (d .window) x 0))) (unknown (memory past c x) (memory-held past c x ∙ first-fetch)) ∙ W x
 
 -- what was called keeps both that the records are sound and that the window has the latest bytes
 sound-left :
@@ -164,7 +168,7 @@ module _ (store window dest : List ℕ) (before : List Request) (write : Request
 
   seen-first :
       (c a n x : ℕ) → isUndisturbed store window dest before write between x ≡ true → isFetched d′ c a n x ≡ true
-      → fetchedSince (backwards (e ∷ past) es) c x ≡ false → byteAt d′ c a n x ≡ byteFor (e .call) x
+      → heldSince (backwards (e ∷ past) es) c x ≡ false → byteAt d′ c a n x ≡ byteFor (e .call) x
   unfolding latest
   seen-first c a n x calm got firstly =
       let wrote = and-left (writes x e) (all (λ f. not (writes x f)) es) calm in
@@ -174,34 +178,50 @@ module _ (store window dest : List ℕ) (before : List Request) (write : Request
       (and-right taken (inSpan a n x) got) firstly
       ∙ latest-stays window (e ∷ past) es x quiet ∙ rw wrote
 
--- A begin after it: the search back does not look behind the begin
+-- A begin after it: what a command has at an address is told by what came since
 
-same-search :
-    (es past past′ : List Event) (c x : ℕ) → fetchedSince past c x ≡ fetchedSince past′ c x
-    → fetchedSince (backwards past es) c x ≡ fetchedSince (backwards past′ es) c x
-unfolding backwards fetchedSince
-same-search [] past past′ c x h = h
-same-search (e ∷ es) past past′ c x h = same-search es (e ∷ past) (e ∷ past′) c x (ap (finds (deed e) c x) h)
+-- an event looks at what the command had at this address, and at nothing else
+remember-at : (d : Deed) (mem mem′ : Memory) (c x : ℕ) → mem c x ≡ mem′ c x → remember mem d c x ≡ remember mem′ d c x
+unfolding remember
+remember-at (began e) mem mem′ c x h = rw h
+remember-at (fetched e a n window) mem mem′ c x h = rw h
+remember-at (wrote e a bytes) mem mem′ c x h = rw h
+remember-at (ended e) mem mem′ c x h = h
+remember-at other mem mem′ c x h = h
 
-begin-ends-search : (d : Deed) (c x : ℕ) (further further′ : Bool) → renews c x d ≡ true → finds d c x further ≡ finds d c x further′
-unfolding finds
-begin-ends-search (began e) c x further further′ h = rw h
-begin-ends-search (fetched e a n window) c x further further′ h = absurd (false≢true h)
-begin-ends-search (ended e) c x further further′ h = absurd (false≢true h)
-begin-ends-search other c x further further′ h = absurd (false≢true h)
+-- and one that renews the address not even at that
+renewed-at : (d : Deed) (mem mem′ : Memory) (c x : ℕ) → renews c x d ≡ true → remember mem d c x ≡ remember mem′ d c x
+unfolding remember
+renewed-at (began e) mem mem′ c x h = rw h
+renewed-at (fetched e a n window) mem mem′ c x h = absurd (false≢true h)
+renewed-at (wrote e a bytes) mem mem′ c x h = rw h
+renewed-at (ended e) mem mem′ c x h = absurd (false≢true h)
+renewed-at other mem mem′ c x h = absurd (false≢true h)
 
-search-since-begin :
+same-memory :
+    (es past past′ : List Event) (c x : ℕ) → memory past c x ≡ memory past′ c x → memory (backwards past es) c x ≡ memory (backwards past′ es) c x
+unfolding backwards memory
+same-memory [] past past′ c x h = h
+same-memory (e ∷ es) past past′ c x h = same-memory es (e ∷ past) (e ∷ past′) c x (remember-at (deed e) (memory past) (memory past′) c x h)
+
+memory-since :
     (es past past′ : List Event) (c x : ℕ) → all (λ e. not (renews c x (deed e))) es ≡ false
-    → fetchedSince (backwards past es) c x ≡ fetchedSince (backwards past′ es) c x
-unfolding backwards fetchedSince all
-search-since-begin [] past past′ c x h = absurd (false≢true (sym h))
-search-since-begin (e ∷ es) past past′ c x h = go (renews c x (deed e)) refl (search-since-begin es (e ∷ past) (e ∷ past′) c x)
+    → memory (backwards past es) c x ≡ memory (backwards past′ es) c x
+unfolding backwards memory all
+memory-since [] past past′ c x h = absurd (false≢true (sym h))
+memory-since (e ∷ es) past past′ c x h = go (renews c x (deed e)) refl (memory-since es (e ∷ past) (e ∷ past′) c x)
   where
     go : (b : Bool) → renews c x (deed e) ≡ b
-        → (all (λ f. not (renews c x (deed f))) es ≡ false → fetchedSince (backwards (e ∷ past) es) c x ≡ fetchedSince (backwards (e ∷ past′) es) c x)
-        → fetchedSince (backwards (e ∷ past) es) c x ≡ fetchedSince (backwards (e ∷ past′) es) c x
-    go true r further = same-search es (e ∷ past) (e ∷ past′) c x (begin-ends-search (deed e) c x (fetchedSince past c x) (fetchedSince past′ c x) r)
+        → (all (λ f. not (renews c x (deed f))) es ≡ false → memory (backwards (e ∷ past) es) c x ≡ memory (backwards (e ∷ past′) es) c x)
+        → memory (backwards (e ∷ past) es) c x ≡ memory (backwards (e ∷ past′) es) c x
+    go true r further = same-memory es (e ∷ past) (e ∷ past′) c x (renewed-at (deed e) (memory past) (memory past′) c x r)
     go false r further = further (rw r at h)
+
+held-since-renewed :
+    (es past past′ : List Event) (c x : ℕ) → all (λ e. not (renews c x (deed e))) es ≡ false
+    → heldSince (backwards past es) c x ≡ heldSince (backwards past′ es) c x
+held-since-renewed es past past′ c x h =
+    sym (memory-held (backwards past es) c x) ∙ ap isKnown (memory-since es past past′ c x h) ∙ memory-held (backwards past′ es) c x
 
 pub written-seen : WrittenSeen
 written-seen store window dest before write between = record {
@@ -210,7 +230,7 @@ written-seen store window dest before write between = record {
       let past = pastOfWrite store window dest before write between in
       let e = theWrite store window dest before write between in
       let es = eventsBetween store window dest before write between in
-      seen-first store window dest before write between c a n x calm got (search-since-begin es (e ∷ past) [] c x begun ∙ firstly);
+      seen-first store window dest before write between c a n x calm got (held-since-renewed es (e ∷ past) [] c x begun ∙ firstly);
 }
 
 -- Situation K
@@ -229,7 +249,7 @@ delivers-length m past c a n dest window S e =
     ap length (delivers-owed m (memory past) (fetch c a n dest window) true e S) ∙ length-map (span a n) _ ∙ length-span a n
 
 pub situation-k : SituationK
-unfolding left made along backwards all fetchedSince finds
+unfolding left made along backwards all lastWrite firstFetch writeIn fetchIn
 situation-k store window dest before c a bytes hosted begun taken =
     let n = length bytes in
     let past = before ++ fetches c a n ∷ [] in

@@ -39,7 +39,8 @@ pub record IsRun (d : Device) (input : List ℕ) : Type 0 where
 abbrev pub JournalIsRun : Type 0
 JournalIsRun = (d : Device) (input : List ℕ) → IsRun d input
 
--- So the bytes in the log of a journal from the fresh state are those that the first fetches since each command's begin saw.
+-- So the bytes in the log of a journal from the fresh state are those that each command last wrote since its begin, and elsewhere those that its
+-- first fetches saw.
 abbrev pub LogDelivers : Type 0
 LogDelivers =
     (store window dest input : List ℕ) →

@@ -1,6 +1,6 @@
 -- What a command is given of an address that was written before: Midas' second property, that a fetch which is a command's first of an
--- address gets the latest bytes there (docs/RULES.md says what Midas is). It is told from the calls made on one device, whose window each call
--- leaves to the next.
+-- address, which it has not written either, gets the latest bytes there (docs/RULES.md says what Midas is). It is told from the calls made on
+-- one device, whose window each call leaves to the next.
 use Prim.Native.Nat.{ℕ, _-_}
 use mathlib.Core.Path.{_≡_}
 use mathlib.Core.List.{List, [], _∷_, _++_}
@@ -11,7 +11,7 @@ use Rattle.state.specs.Records.{inSpan}
 use Rattle.state.specs.Verdict.{accepted}
 use Rattle.cache.specs.Runs.{Call, begin, fetch, end, hostWrite, ownWrite, show, says, delivers, along}
 use Rattle.history.specs.Journal.{Event, event, backwards, deed}
-use Rattle.history.specs.Firsts.{fetchedSince}
+use Rattle.history.specs.Firsts.{heldSince}
 use Rattle.history.specs.Claims.{renews}
 use Rattle.device.specs.Step.{Device, deviceAfter}
 use Rattle.journal.specs.Run.{freshDevice}
@@ -88,13 +88,13 @@ module _ (d : Device) (c a n x : ℕ) where
   abbrev pub byteAt : ℕ
   byteAt = getD (delivers (d .machine) (callOn d (fetches c a n))) (x - a) 0
 
--- Whatever was called on a device from the fresh state on: an accepted fetch that is the command's first of an address since its begin gets
--- the byte of the latest accepted write there, whoever made it.
+-- Whatever was called on a device from the fresh state on: an accepted fetch that is the command's first of an address since its begin, which it
+-- has not written either, gets the byte of the latest accepted write there, whoever made it.
 abbrev pub FirstGetsLatest : Type 0
 FirstGetsLatest =
     (store window dest : List ℕ) (qs : List Request) (c a n x : ℕ) →
     let start = freshDevice store window dest in
-    isFetched (left start qs) c a n x ≡ true → fetchedSince (pastFrom [] start qs) c x ≡ false
+    isFetched (left start qs) c a n x ≡ true → heldSince (pastFrom [] start qs) c x ≡ false
     → byteAt (left start qs) c a n x ≡ latest window (pastFrom [] start qs) x
 
 -- A write, some calls after it, and a fetch
@@ -122,13 +122,15 @@ module _ (store window dest : List ℕ) (before : List Request) (write : Request
   abbrev pub isUndisturbed : ℕ → Bool
   isUndisturbed x = writes x theWrite && all (λ e. not (writes x e)) eventsBetween
 
-  -- Midas' second property: a fetch gets the written byte if it is the command's first of the address since its begin; and it is, where the
-  -- command began after the write, whichever command wrote, and has not fetched the address since.
+  -- Midas' second property: a fetch gets the written byte if it is the command's first of the address since its begin, which it has not
+  -- written either; and it is, where the command began after the write (nobody writes there in between, so what renews the address is its
+  -- begin), whichever command wrote, and has not fetched the address since. (The command that wrote gets its own byte by the rule on written
+  -- values, whatever others write after it.)
   pub record Seen : Type 0 where
     pub first : (c a n x : ℕ) → isUndisturbed x ≡ true → isFetched beforeFetch c a n x ≡ true
-        → fetchedSince (backwards (theWrite ∷ pastOfWrite) eventsBetween) c x ≡ false → byteAt beforeFetch c a n x ≡ byteFor (theWrite .call) x
+        → heldSince (backwards (theWrite ∷ pastOfWrite) eventsBetween) c x ≡ false → byteAt beforeFetch c a n x ≡ byteFor (theWrite .call) x
     pub later : (c a n x : ℕ) → isUndisturbed x ≡ true → isFetched beforeFetch c a n x ≡ true
-        → all (λ e. not (renews c x (deed e))) eventsBetween ≡ false → fetchedSince (backwards [] eventsBetween) c x ≡ false
+        → all (λ e. not (renews c x (deed e))) eventsBetween ≡ false → heldSince (backwards [] eventsBetween) c x ≡ false
         → byteAt beforeFetch c a n x ≡ byteFor (theWrite .call) x
 
 -- The first fetch of an address after a write there gets the written byte, and a later command sees what an earlier one wrote.

@@ -14,9 +14,9 @@ ghost use Rattle.log.specs.Line.{answerReply, deliveredFields, answerFie
 // What was done with a frame.
 pub enum Answer {
     Done,
-    // how many bytes were written
+    // how many bytes a host write wrote
     Count(usize),
-    // fresh and replayed bytes of a fetch, records and bytes of an end
+    // fresh and replayed bytes of a fetch, records and bytes of an end, bytes of an own write and how many of their addresses were not held before
     Counts(usize, usize),
     Refused(Refusal),
 }

@@ -1,4 +1,4 @@
-// The half of fetch that judges: the refusal that applies, or the counts of the span.
+// The half of fetch that judges: the refusal that applies, or the counts of the span. An own write is judged by it too.
 ghost use mathlib.Core.Path.{_≡_};
 ghost use mathlib.Core.List.{[], _∷_};
 ghost use mathlib.Core.Bool.{not, _||_};
@@ -45,7 +45,7 @@ fn counted(words: &[u64], address: usize, size: usize) -> FetchAnswer
 }
 
 // The first check that applies is given.
-pub(crate) fn judge(
+pub fn judge(
     flag: u64,
     words: &[u64],
     values: &[u8],

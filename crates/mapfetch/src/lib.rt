@@ -11,7 +11,7 @@ use bytemap::ByteMap;
 use state::FetchAnswer;
 use stretches::take::take;
 
-mod judge;
+pub mod judge;
 
 // The bytes of the span are taken into the values, go from there to the destination, and the span is set.
 fn deliver(

@@ -6,7 +6,8 @@ use native.Mathlib.Numerals.{add-one}
 use mathlib.Core.Path.{_≡_, refl, ap, ap₂, subst, sym, _∙_}
 use mathlib.Core.List.{List, [], _∷_, _++_, append-nil, append-assoc}
 use lib.ListN.{length, take, drop, getD, set, length-append, length-take, length-drop, take-append-drop, List·getD-append}
-use lib.Seq.{length-take-le, take-at, drop-at, take-add, take-suc, drop-drop, drop-append-le, set-at, paste, paste-suc, getD-take, getD-drop, ext-getD}
+use lib.Seq.{length-take-le, take-at, drop-at, take-add, take-take, take-suc, drop-drop, drop-append-le}
+use lib.Seq.{set-at, paste, paste-suc, getD-take, getD-drop, ext-getD}
 use Rattle.octets.specs.Lists.{overwrite, part}
 use Rattle.octets.proofs.Lists.{getD-past, take-min}
 
@@ -160,3 +161,34 @@ overwrite-on buffer b c at fits =
 pub part-before : (buffer bytes : List ℕ) (at from n : ℕ) → at + length bytes ≤ length buffer → from + n ≤ at
     → part (overwrite buffer at bytes) from n ≡ part buffer from n
 part-before buffer bytes at from n fits h = part-beside buffer bytes at fits from n (λ i k. overwrite-below buffer bytes at fits (from + i) 0 (omega arith))
+
+-- Bytes written inside others that were written before: if `all` stands there then, it is as if `all` had been written.
+module _ (buffer bytes inner all : List ℕ) (at p : ℕ)
+    (fits : at + length bytes ≤ length buffer) (within : p + length inner ≤ length bytes) (size : length all ≡ length bytes) where
+  abbrev before : List ℕ
+  before = overwrite buffer at bytes
+
+  abbrev after : List ℕ
+  after = overwrite before (at + p) inner
+
+  room : at + p + length inner ≤ length before
+  room = omega (arith, length-overwrite buffer bytes at fits)
+
+  same-below : take at after ≡ take at buffer
+  same-below =
+      sym (take-take at (at + p) after (omega arith)) ∙ ap (take at) (overwrite-before before inner (at + p) room)
+      ∙ take-take at (at + p) before (omega arith) ∙ overwrite-before buffer bytes at fits
+
+  same-above : drop (at + length all) after ≡ drop (at + length all) buffer
+  same-above =
+      let left = length bytes - (p + length inner) in
+      let reach : at + p + length inner + left ≡ at + length bytes = omega arith in
+      rw size
+      (ap (λ (k : ℕ). drop k after) (sym reach) ∙ sym (drop-drop left (at + p + length inner) after)
+      ∙ ap (drop left) (overwrite-behind before inner (at + p) room) ∙ drop-drop left (at + p + length inner) before
+      ∙ ap (λ (k : ℕ). drop k before) reach ∙ overwrite-behind buffer bytes at fits)
+
+  pub overwrite-within : part after at (length all) ≡ all → after ≡ overwrite buffer at all
+  overwrite-within stands =
+      sym (overwrite-same after at (length all) (omega (arith, length-overwrite before inner (at + p) room, length-overwrite buffer bytes at fits)))
+      ∙ ap (overwrite after at) stands ∙ ap₂ (λ (x y : List ℕ). x ++ all ++ y) same-below same-above

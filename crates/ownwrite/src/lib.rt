@@ -1,61 +1,93 @@
-// Own write: a host write made by an open command. The state is only looked at.
+// Own write: an open command writes bytes into the window, and holds them as if it had fetched them there. What is held comes from the bytes
+// that are given, and the window is not read.
 ghost use mathlib.Core.Path.{_≡_};
+ghost use mathlib.Core.List.{[]};
+ghost use mathlib.Core.Bool.{true};
+ghost use Prim.Native.Nat.{_<_};
 ghost use lib.ListN.{length};
+ghost use Rattle.state.specs.Verdict.{replied, accepted, verdict};
+ghost use Rattle.cache.specs.Fetch.{admitChecks};
 ghost use Rattle.state.specs.Limits.{stateWords};
 ghost use Rattle.state.specs.Words.{stateOf};
-ghost use Rattle.cache.specs.HostWrite.{writeReply};
-ghost use Rattle.cache.specs.OwnWrite.{ownSays, ownWindow};
-use cache::host_write::WriteAnswer;
+ghost use Rattle.ownwrite.specs.OwnWrite.{OwnWrites};
+use admission::admit::Admission;
+use admission::admit::admit;
+use holding::Holding;
+use holding::hold_span;
 use state::CacheState;
+use state::OwnWriteAnswer;
 use state::Refusal;
-use state::range;
-use words::command::is_open;
+use store::part;
 
-fn judge(
-    state: &[u16],
-    window_len: usize,
-    command: usize,
-    address: usize,
-    size: usize,
-) -> WriteAnswer
-    requires { ⌜ length (now state) ≡ stateWords ⌝ }
-    ensures { λ r. ⌜ writeReply r ≡ ownSays (stateOf (now (state .entry))) «window_len» command address size ⌝ }
-{
-    if CacheState::TRANSFER < size {
-        return WriteAnswer::Refused(Refusal::LengthTooLong);
-    }
-    if CacheState::COMMANDS <= command {
-        return WriteAnswer::Refused(Refusal::CommandTooHigh);
-    }
-    if CacheState::WINDOW < window_len {
-        return WriteAnswer::Refused(Refusal::WindowTooLong);
-    }
-    if range::outside(window_len, address, size) {
-        return WriteAnswer::Refused(Refusal::OutsideWindow);
-    }
-    if !integrity::holds(state) {
-        return WriteAnswer::Refused(Refusal::StateBroken);
-    }
-    if !is_open(state, command) {
-        return WriteAnswer::Refused(Refusal::CommandNotOpen);
-    }
-    WriteAnswer::Done(size)
-}
-
-pub fn own_write(
-    state: &[u16; CacheState::WORDS],
+// A byte or more: they are held, if there is room for what they bring, put over what was held of their span before, and written into the window.
+fn write_span(
+    state: &mut [u16],
+    store: &mut [u8],
     window: &mut [u8],
     command: usize,
     address: usize,
     bytes: &[u8],
-) -> WriteAnswer
-    ensures reply { λ r. ⌜ writeReply r ≡ ownSays (stateOf (now (state .entry))) (length (now (window .entry))) command address (length (now (bytes .entry))) ⌝ }
-    ensures window { λ _. ⌜ now (window .exit) ≡ ownWindow (stateOf (now (state .entry))) (now (window .entry)) command address (now (bytes .entry)) ⌝ }
+) -> OwnWriteAnswer
+    requires { ⌜ (length (now state) ≡ stateWords) × (accepted (verdict (admitChecks (stateOf (now state)) (length (now store)) (length (now window)) (length (now bytes)) command address (length (now bytes))) (replied [])) ≡ true) × (0 < length (now bytes)) ⌝ }
+    ensures { λ r. ⌜ OwnWrites (now (state .entry)) (now (store .entry)) (now (window .entry)) command address (now (bytes .entry)) r (now (state .exit)) (now (store .exit)) (now (window .exit)) ⌝ }
 {
-    let answer = judge(state, window.len(), command, address, bytes.len());
-    let WriteAnswer::Done(_) = answer else {
-        return answer;
-    };
-    octets::copy_at(window, address, bytes);
-    answer
+    let written = bytes.len();
+    let holding = hold_span(state, store, bytes, address, command, address, written);
+    match holding {
+        Holding::Bytes => OwnWriteAnswer::Refused(Refusal::TooManyBytes),
+        Holding::Records => OwnWriteAnswer::Refused(Refusal::TooManyRecords),
+        Holding::Span { fresh, place } => {
+            part::put(store, command, place, bytes);
+            octets::copy_at(window, address, bytes);
+            OwnWriteAnswer::Done { written, fresh }
+        }
+    }
+}
+
+// The call, once the array is lent as a slice, of which parts can be lent. It is admitted as a fetch of the span is, into a destination that
+// has room for it.
+fn own_words(
+    state: &mut [u16],
+    store: &mut [u8],
+    window: &mut [u8],
+    command: usize,
+    address: usize,
+    bytes: &[u8],
+) -> OwnWriteAnswer
+    requires { ⌜ length (now state) ≡ stateWords ⌝ }
+    ensures { λ r. ⌜ OwnWrites (now (state .entry)) (now (store .entry)) (now (window .entry)) command address (now (bytes .entry)) r (now (state .exit)) (now (store .exit)) (now (window .exit)) ⌝ }
+{
+    let size = bytes.len();
+    let admission = admit(
+        state,
+        store.len(),
+        window.len(),
+        size,
+        command,
+        address,
+        size,
+    );
+    if let Admission::Barred(why) = admission {
+        return OwnWriteAnswer::Refused(why);
+    }
+    if size == 0 {
+        return OwnWriteAnswer::Done {
+            written: 0,
+            fresh: 0,
+        };
+    }
+    write_span(state, store, window, command, address, bytes)
+}
+
+pub fn own_write(
+    state: &mut [u16; CacheState::WORDS],
+    store: &mut [u8],
+    window: &mut [u8],
+    command: usize,
+    address: usize,
+    bytes: &[u8],
+) -> OwnWriteAnswer
+    ensures { λ r. ⌜ OwnWrites (now (state .entry)) (now (store .entry)) (now (window .entry)) command address (now (bytes .entry)) r (now (state .exit)) (now (store .exit)) (now (window .exit)) ⌝ }
+{
+    own_words(state, store, window, command, address, bytes)
 }

@@ -29,8 +29,9 @@ endedOf says = record { status = statusOf says; records = member 0 says; bytes =
 abbrev pub fetchedOf : Reply → Fetched
 fetchedOf says = record { status = statusOf says; fresh = member 0 says; replayed = member 1 says }
 
+-- a host write says one number, so that its second member is 0
 abbrev pub writtenOf : Reply → Written
-writtenOf says = record { status = statusOf says; bytes = member 0 says }
+writtenOf says = record { status = statusOf says; bytes = member 0 says; fresh = member 1 says }
 
 abbrev pub shownOf : Reply → Shown
 shownOf says = record { status = statusOf says; start = member 0 says; len = member 1 says }

@@ -6,8 +6,9 @@ use cache::show::ShowAnswer;
 use state::BeginAnswer;
 use state::EndAnswer;
 use state::FetchAnswer;
+use state::OwnWriteAnswer;
 ghost use mathlib.Core.Path.{_≡_};
-ghost use Rattle.state.specs.Answers.{beginReply, endReply, fetchReply};
+ghost use Rattle.state.specs.Answers.{beginReply, endReply, fetchReply, ownWriteReply};
 ghost use Rattle.cache.specs.HostWrite.{writeReply};
 ghost use Rattle.cache.specs.Show.{showReply};
 ghost use Rattle.replies.specs.Replies.{begunOf, endedOf, fetchedOf, writtenOf, shownOf};
@@ -33,11 +34,12 @@ pub struct Fetched {
     pub replayed: usize,
 }
 
-// How many bytes were written.
+// How many bytes were written; and, of an own write, how many of their addresses were not held before.
 #[repr(C)]
 pub struct Written {
     pub status: u32,
     pub bytes: usize,
+    pub fresh: usize,
 }
 
 // A record.
@@ -100,8 +102,30 @@ pub fn write_reply(answer: WriteAnswer) -> Written
         WriteAnswer::Refused(why) => Written {
             status: status(why),
             bytes: 0,
+            fresh: 0,
         },
-        WriteAnswer::Done(bytes) => Written { status: OK, bytes },
+        WriteAnswer::Done(n) => Written {
+            status: OK,
+            bytes: n,
+            fresh: 0,
+        },
+    }
+}
+
+pub fn own_write_reply(answer: OwnWriteAnswer) -> Written
+    ensures { λ r. ⌜ r ≡ writtenOf (ownWriteReply answer) ⌝ }
+{
+    match answer {
+        OwnWriteAnswer::Refused(why) => Written {
+            status: status(why),
+            bytes: 0,
+            fresh: 0,
+        },
+        OwnWriteAnswer::Done { written, fresh } => Written {
+            status: OK,
+            bytes: written,
+            fresh,
+        },
     }
 }
 

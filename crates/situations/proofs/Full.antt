@@ -19,7 +19,7 @@ use Rattle.cache.specs.Begin.{beginSays, beginState}
 use Rattle.cache.specs.Fetch.{fetchSays, fetchState}
 use Rattle.cache.specs.Runs.{Call, begin, fetch, Machine, start, says, after, delivers}
 use Rattle.history.specs.Journal.{fetched, deedOf}
-use Rattle.history.specs.Firsts.{none, first, Memory, remember, memory, recall, orElse, owedBy}
+use Rattle.history.specs.Firsts.{none, some, Memory, remember, memory, recall, orElse, owedBy}
 use Rattle.cache.proofs.Unchanged.{refused-same}
 use Rattle.history.proofs.Effects.{length-after}
 use Rattle.history.proofs.Sound.{Sound, sound-start, sound-after}
@@ -126,7 +126,7 @@ again-owed mem unknown =
     (fun-ext λ x. rw (unknown x) (seen (leb 0 x && ltb x (0 + 4096)) (getD window x 0)))
     ∙ window-bytes
   where
-    seen : (t : Bool) (v : ℕ) → recall (orElse (cond t (first v) none) v) ≡ v
+    seen : (t : Bool) (v : ℕ) → recall (orElse (cond t (some v) none) v) ≡ v
     seen true v = refl
     seen false v = refl
 

@@ -1,4 +1,4 @@
--- The marked situations of 01 (the agreed scope, with request F-1 of 02; docs/RULES.md has their rules), those with a star and K. Each starts
+-- The marked situations of 01 (the agreed scope, with requests F-1 and F-3 of 02; docs/RULES.md has their rules), those with a star and K. Each starts
 -- with command 0 open, no records, and a window of 16,384 bytes.
 use Prim.Native.Nat.{ℕ, _*_, _%_}
 use mathlib.Core.Path.{_≡_}
@@ -88,17 +88,23 @@ H = turnedAway 0 4097 4 (is []) ∷ []
 unfoldable pub I : List Step
 I = reads (0x28 ∷ 0 ∷ 0x40 ∷ 0 ∷ 0x81 ∷ []) (refused 3) ∷ reads (0x28 ∷ 0 ∷ 0x40 ∷ 0 ∷ []) (refused 1) ∷ reads (0xa0 ∷ 0 ∷ 0 ∷ 0 ∷ 0 ∷ []) (refused 2) ∷ []
 
--- the window after an own write of two bytes at 16, and the command still gets the old ones
+-- the window after a write of two bytes at 16
 written : List ℕ
 unfolding bytesOf
 written = bytesOf 0 16 ++ 201 ∷ 202 ∷ bytesOf 18 16366
 
+-- F-3: a command that writes what it holds gets the written bytes, also where the host has put the old ones back; another command gets the
+-- window's
 unfoldable pub J : List Step
 unfolding fetches bytesOf window dest written
 J =
     fetches 16 2 2 0 (is (16 ∔ 2 ∷ []))
-    ∷ calls (record { call = ownWrite 0 16 (201 ∷ 202 ∷ []) window; answer = replied (2 ∷ []); bytes = []; records = is (16 ∔ 2 ∷ []); window = is written })
-    ∷ calls (record { call = fetch 0 16 2 dest written; answer = replied (0 ∷ 2 ∷ []); bytes = 16 ∷ 17 ∷ []; records = is (16 ∔ 2 ∷ []); window = unsaid })
+    ∷ calls
+    (record { call = ownWrite 0 16 (201 ∷ 202 ∷ []) window; answer = replied (2 ∷ 0 ∷ []); bytes = []; records = is (16 ∔ 2 ∷ []); window = is written })
+    ∷ calls (record { call = fetch 0 16 2 dest written; answer = replied (0 ∷ 2 ∷ []); bytes = 201 ∷ 202 ∷ []; records = is (16 ∔ 2 ∷ []); window = unsaid })
+    ∷ calls (record { call = fetch 0 16 2 dest window; answer = replied (0 ∷ 2 ∷ []); bytes = 201 ∷ 202 ∷ []; records = is (16 ∔ 2 ∷ []); window = unsaid })
+    ∷ calls (record { call = begin 1; answer = replied []; bytes = []; records = is (16 ∔ 2 ∷ []); window = unsaid })
+    ∷ calls (record { call = fetch 1 16 2 dest window; answer = replied (2 ∷ 0 ∷ []); bytes = 16 ∷ 17 ∷ []; records = is (16 ∔ 2 ∷ []); window = unsaid })
     ∷ []
 
 -- the same two bytes written by the host, the command ended and begun anew: it gets the new ones

@@ -15,12 +15,12 @@ use Rattle.cache.specs.Begin.{beginSays, beginState, beginStore}
 use Rattle.cache.specs.Fetch.{fetchSays, fetchState, fetchStore, fetchDest}
 use Rattle.cache.specs.End.{endSays, endState, endStore}
 use Rattle.cache.specs.HostWrite.{hostSays, hostWindow}
-use Rattle.cache.specs.OwnWrite.{ownSays, ownWindow}
+use Rattle.cache.specs.OwnWrite.{ownSays, ownState, ownStore, ownWindow}
 use Rattle.frames.specs.Layout.{fieldsOf}
 use Rattle.frames.specs.Kinds.{dataSize}
 use Rattle.frames.specs.Checks.{notZero, zeroBroken}
 use Rattle.frames.specs.Read.{fieldsSay, readSays}
-use Rattle.cache.specs.Runs.{Call, begin, fetch, end, hostWrite, ownWrite, show, Machine, says, after, storeAfter, windowAfter, delivers}
+use Rattle.cache.specs.Runs.{Call, begin, fetch, end, hostWrite, ownWrite, show, Machine, says, after, stateAfter, storeAfter, windowAfter, delivers}
 
 -- The program that the situations try: the definitions of the calls and of the reader. What the situations are about stands on a line of its own,
 -- where a wrong program can be put in its place: then a situation fails.
@@ -36,9 +36,13 @@ module _ (s : State) (storeLen windowLen destLen c a n : ℕ) where
 abbrev pub fetchGives : Machine → (c a n : ℕ) (dest window : List ℕ) → List ℕ
 fetchGives m c a n dest window = delivers m (fetch c a n dest window)
 
--- the window after an own write
-abbrev pub ownLeaves : State → (window : List ℕ) (c a : ℕ) (bytes : List ℕ) → List ℕ
-ownLeaves s window c a bytes = ownWindow s window c a bytes
+-- the window and the store after an own write
+module _ (s : State) (store window : List ℕ) (c a : ℕ) (bytes : List ℕ) where
+  abbrev pub ownLeaves : List ℕ
+  ownLeaves = ownWindow s store window c a bytes
+
+  abbrev pub ownKeeps : List ℕ
+  ownKeeps = ownStore s store window c a bytes
 
 -- what reading a frame answers
 abbrev pub readAnswers : (frame : List ℕ) → Reply
@@ -69,7 +73,10 @@ leaves m (fetch c a n dest window) = record {
 }
 leaves m (end c) = after m (end c)
 leaves m (hostWrite a bytes window) = after m (hostWrite a bytes window)
-leaves m (ownWrite c a bytes window) = after m (ownWrite c a bytes window)
+leaves m (ownWrite c a bytes window) = record {
+  state = stateAfter m (ownWrite c a bytes window);
+  store = ownKeeps (m .state) (m .store) window c a bytes;
+}
 leaves m (show c i) = after m (show c i)
 
 abbrev pub leavesWindow : Machine → Call → List ℕ
@@ -77,7 +84,7 @@ leavesWindow m (begin c) = windowAfter m (begin c)
 leavesWindow m (fetch c a n dest window) = windowAfter m (fetch c a n dest window)
 leavesWindow m (end c) = windowAfter m (end c)
 leavesWindow m (hostWrite a bytes window) = windowAfter m (hostWrite a bytes window)
-leavesWindow m (ownWrite c a bytes window) = ownLeaves (m .state) window c a bytes
+leavesWindow m (ownWrite c a bytes window) = ownLeaves (m .state) (m .store) window c a bytes
 leavesWindow m (show c i) = windowAfter m (show c i)
 
 -- what must be so after a step, or nothing said of it
@@ -122,8 +129,8 @@ asExpected same (is y) x = same y x
 -- does each step give what it must, the machine handed on from one to the next?
 unfoldable pub passes : Machine → List Step → Bool
 unfolding sameNumbers sameAnswer sameRecords asExpected readSays fieldsSay fieldsOf dataSize notZero zeroBroken hostSays hostWindow ownSays
-    ownWindow beginSays beginState beginStore endSays endState endStore fetchSays fetchState fetchStore fetchDest accepted verdict all ascending
-    commandHolds holds total held span countFresh countHeld keep lowest highest joined addresses place
+    ownState ownStore ownWindow beginSays beginState beginStore endSays endState endStore fetchSays fetchState fetchStore fetchDest accepted verdict
+    all ascending commandHolds holds total held span countFresh countHeld keep lowest highest joined addresses place
 passes m [] = true
 passes m (reads frame answer ∷ ts) = sameAnswer answer (readAnswers frame) && passes m ts
 passes m (calls t ∷ ts) =

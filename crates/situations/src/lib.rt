@@ -1,1 +1,2 @@
-// The starred situations of document 01 (the agreed scope; docs/RULES.md has its rules), run on the definitions. There is no code.
+// The marked situations of document 01 (the agreed scope, with the changes of 02; docs/RULES.md has their rules), run on the definitions. There is
+// no code.

@@ -86,6 +86,28 @@ verdict-keeps ks (c ∷ cs) ns h =
     go true e first rest = rw e first
     go false e first rest = rw e rest
 
+-- The numbers of the reply decide neither whether a call is accepted nor with which number it is refused.
+module _ (ns ks : List ℕ) where
+  pub accepted-alike : (cs : List Check) → accepted (verdict cs (replied ns)) ≡ accepted (verdict cs (replied ks))
+  unfolding verdict accepted
+  accepted-alike [] = refl
+  accepted-alike (c ∷ cs) = go (c .applies) refl (accepted-alike cs)
+    where
+      go : (b : Bool) → c .applies ≡ b → accepted (verdict cs (replied ns)) ≡ accepted (verdict cs (replied ks))
+          → accepted (verdict (c ∷ cs) (replied ns)) ≡ accepted (verdict (c ∷ cs) (replied ks))
+      go true e ih = rw e
+      go false e ih = rw e ih
+
+  pub refused-alike : (cs : List Check) → accepted (verdict cs (replied ns)) ≡ false → verdict cs (replied ns) ≡ verdict cs (replied ks)
+  unfolding verdict accepted
+  refused-alike [] away = absurd (false≢true (sym away))
+  refused-alike (c ∷ cs) away = go (c .applies) refl (refused-alike cs)
+    where
+      go : (b : Bool) → c .applies ≡ b → (accepted (verdict cs (replied ns)) ≡ false → verdict cs (replied ns) ≡ verdict cs (replied ks))
+          → verdict (c ∷ cs) (replied ns) ≡ verdict (c ∷ cs) (replied ks)
+      go true e ih = rw e
+      go false e ih = rw e (ih (rw e at away))
+
 -- a verdict told check by check, as code that goes through the checks tells it
 module _ (b : Bool) (n : ℕ) (cs : List Check) (reply : Reply) where
   pub verdict-stops : b ≡ true → refused n ≡ verdict (b ⇒ n ∷ cs) reply

@@ -6,6 +6,8 @@ use Rattle.state.specs.declared.answer.FetchAnswer.{FetchAnswer}
 use Rattle.state.specs.declared.answer.FetchAnswer.the-variants as fetch
 use Rattle.state.specs.declared.answer.EndAnswer.{EndAnswer}
 use Rattle.state.specs.declared.answer.EndAnswer.the-variants as end
+use Rattle.state.specs.declared.answer.OwnWriteAnswer.{OwnWriteAnswer}
+use Rattle.state.specs.declared.answer.OwnWriteAnswer.the-variants as own
 use Rattle.state.specs.Refusals.{number}
 use Rattle.state.specs.Verdict.{Reply, refused, replied}
 
@@ -20,3 +22,7 @@ fetchReply (fetch.Refused r) = refused (number r)
 abbrev pub endReply : EndAnswer → Reply
 endReply (end.Done records bytes) = replied (records ∷ bytes ∷ [])
 endReply (end.Refused r) = refused (number r)
+
+abbrev pub ownWriteReply : OwnWriteAnswer → Reply
+ownWriteReply (own.Done written fresh) = replied (written ∷ fresh ∷ [])
+ownWriteReply (own.Refused r) = refused (number r)

@@ -1,5 +1,6 @@
--- The records of one command: which addresses they hold, where the held bytes stand, and what a fetched span makes of them
--- (01, the agreed scope, "The book and the store" and the rule of fetch, with request F-1 of 02; docs/RULES.md has their rules).
+-- The records of one command: which addresses they hold, where the held bytes stand, and what a span that is fetched or written makes of them
+-- (01, the agreed scope, "The book and the store" and the rule of fetch, with requests F-1 and F-3 of 02, the agreed changes; docs/RULES.md has
+-- their rules).
 use Prim.Native.Nat.{ℕ, zero, suc, _+_, _-_, min, max}
 use mathlib.Core.List.{List, [], _∷_, _++_}
 use mathlib.Core.Bool.{Bool, false, cond, _&&_, _||_}

@@ -1,4 +1,4 @@
-// What begin, fetch and end answer, the record engine's and the byte map's alike.
+// What begin, fetch, end and own write answer, the record engine's and the byte map's alike.
 use crate::refusal::Refusal;
 
 pub enum BeginAnswer {
@@ -15,5 +15,11 @@ pub enum FetchAnswer {
 pub enum EndAnswer {
     // how many records and distinct bytes the command had
     Done { records: usize, bytes: usize },
+    Refused(Refusal),
+}
+
+pub enum OwnWriteAnswer {
+    // how many bytes were written, and how many of their addresses were not held before
+    Done { written: usize, fresh: usize },
     Refused(Refusal),
 }

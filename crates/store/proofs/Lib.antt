@@ -1,3 +1,4 @@
 pub mod Filling
 pub mod Repacking
 pub mod Parts
+pub mod Spans

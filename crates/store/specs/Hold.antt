@@ -1,5 +1,5 @@
--- How a span comes to be held, told of one command's part of the store. For the code behind fetch; the calls themselves are told of
--- the whole store.
+-- How a span comes to be held, told of one command's part of the store. For the code behind fetch and own write; the
+-- calls themselves are told of the whole store.
 use Prim.Native.Nat.{ℕ, _+_, _-_, _≤_}
 use mathlib.Core.List.{List, map}
 use lib.ListN.{length}

@@ -1,13 +1,13 @@
--- The store: where the bytes of each command stand in it, and how a command sees a byte (01, the agreed scope, "The
--- book and the store"; docs/RULES.md has its rules).
+-- The store: where the bytes of each command stand in it, and how a command sees a byte (01, the agreed scope, "The book and the store", and
+-- request F-3 of 02, the agreed changes; docs/RULES.md has their rules).
 use Prim.Native.Nat.{ℕ, _+_, _*_, _-_}
 use mathlib.Core.List.{List, map}
 use mathlib.Core.Bool.{cond}
-use lib.ListN.{getD, replicate}
+use lib.ListN.{length, getD, replicate}
 use Rattle.octets.specs.Lists.{overwrite}
 use Rattle.state.specs.declared.Record.{Record}
 use Rattle.state.specs.Limits.{heldLimit}
-use Rattle.state.specs.Records.{held, place, span, addresses}
+use Rattle.state.specs.Records.{inSpan, held, place, span, addresses}
 use Rattle.state.specs.State.{State}
 
 -- where command c's part begins; each part has room for all that a command may hold, and nothing else says where a part stands
@@ -45,3 +45,7 @@ from base bytes x = getD bytes (x - base) 0
 -- comes from the source.
 abbrev pub sees : List Record → (location : ℕ → ℕ) → (store : List ℕ) → (source : ℕ → ℕ) → ℕ → ℕ
 sees rs location store source x = cond (held rs x) (getD store (location (place rs x)) 0) (source x)
+
+-- the value at each address once bytes are written from an address on: the written byte in their span, and elsewhere the other value
+abbrev pub written : (a : ℕ) (bytes : List ℕ) → (other : ℕ → ℕ) → ℕ → ℕ
+written a bytes other x = cond (inSpan a (length bytes) x) (from a bytes x) (other x)

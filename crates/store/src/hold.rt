@@ -12,14 +12,14 @@ use state::Meeting;
 use words::entries::entry;
 use words::entries::wide;
 
-// The one door to the host: the bytes of the window from the address `low` up to `high` go into the part. The window's first byte
-// has the address `base`.
-fn read_host(part: &mut [u8], at: usize, window: &[u8], base: usize, low: usize, high: usize)
-    requires { ⌜ (low < high → (base ≤ low) × (high ≤ base + length (now window))) ⌝ }
-    ensures { λ _. ⌜ now (part .exit) ≡ overwrite (now (part .entry)) at (take (length (now (part .entry)) - at) (take (high - low) (drop (low - base) (now (window .entry))))) ⌝ }
+// The one door to the host: the bytes of the source from the address `low` up to `high` go into the part. The source's first byte has the
+// address `base`. A fetch's source is the window, an own write's the bytes that it is given.
+fn read_host(part: &mut [u8], at: usize, source: &[u8], base: usize, low: usize, high: usize)
+    requires { ⌜ (low < high → (base ≤ low) × (high ≤ base + length (now source))) ⌝ }
+    ensures { λ _. ⌜ now (part .exit) ≡ overwrite (now (part .entry)) at (take (length (now (part .entry)) - at) (take (high - low) (drop (low - base) (now (source .entry))))) ⌝ }
 {
     if low < high {
-        octets::copy_at(part, at, &window[low - base..high - base]);
+        octets::copy_at(part, at, &source[low - base..high - base]);
     }
 }
 

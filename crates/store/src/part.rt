@@ -59,3 +59,11 @@ pub fn deliver(store: &[u8], command: usize, place: usize, size: usize, destinat
     let from = start(command) + place;
     octets::copy_front(destination, &store[from..from + size]);
 }
+
+// Puts bytes into it, from a place on, over those that stand there.
+pub fn put(store: &mut [u8], command: usize, place: usize, bytes: &[u8])
+    requires { ⌜ (command < commandLimit) × (length (now store) ≡ storeSize) × (place + length (now bytes) ≤ heldLimit) ⌝ }
+    ensures { λ _. ⌜ now (store .exit) ≡ overwrite (now (store .entry)) (partStart command + place) (now (bytes .entry)) ⌝ }
+{
+    octets::copy_at(store, start(command) + place, bytes);
+}

@@ -15,9 +15,9 @@ use Rattle.state.specs.Verdict.{Reply, refused, replied, verdict, accepted}
 use Rattle.cache.specs.Begin.{beginSays, beginState, beginStore}
 use Rattle.cache.specs.Fetch.{fetchSays, fetchState, fetchStore, fetchDest}
 use Rattle.cache.specs.End.{endSays, endState, endStore}
-use Rattle.cache.specs.Runs.{Call, begin, fetch, end, hostWrite, ownWrite, show, start, along, ran, delivers}
+use Rattle.cache.specs.Runs.{Call, begin, fetch, end, hostWrite, show, start, along, ran, delivers}
 use Rattle.history.specs.Journal.{Event, journal, told, backwards, deed}
-use Rattle.history.specs.Firsts.{remember, memory, finds, fetchedSince, First, firstsAmong, firstsBy, firsts, owedBy, owed}
+use Rattle.history.specs.Firsts.{remember, memory, writeIn, lastWrite, fetchIn, firstFetch, First, firstsAmong, firstsBy, firsts, owedBy, owed}
 use Rattle.history.specs.Counts.{countsBy, countsOwed, add, freshSince, sumOwed}
 use Rattle.history.specs.Stores.{phaseBy, phase}
 use Rattle.history.specs.Answers.{openSince, replayCount, firstCount, answerOwed, eventsOf, spare}
@@ -93,14 +93,14 @@ open-now : map (openSince past) (1 ∷ 2 ∷ 3 ∷ []) ≡ false ∷ true ∷ fa
 unfolding run backwards phaseBy phase accepted
 open-now = refl
 
-owed-now : map (answerOwed 32768 past) (begin 1 ∷ begin 2 ∷ begin 8 ∷ end 1 ∷ ownWrite 2 0 (7 ∷ []) (1 ∷ 2 ∷ []) ∷ show 1 0 ∷ [])
+owed-now : map (answerOwed 32768 past) (begin 1 ∷ begin 2 ∷ begin 8 ∷ end 1 ∷ hostWrite 0 (7 ∷ []) (1 ∷ 2 ∷ []) ∷ show 1 0 ∷ [])
     ≡ replied [] ∷ refused 22 ∷ refused 6 ∷ refused 21 ∷ replied (1 ∷ []) ∷ refused 21 ∷ []
 unfolding open-now answerOwed verdict
 owed-now = refl
 
 -- of the span 0+3 command 2 has fetched the first address, and of 1 and 2 it would have first fetches
 counts-now : replayCount past 2 0 3 ∷ firstCount past 2 0 3 ∷ [] ≡ 1 ∷ 2 ∷ []
-unfolding run backwards finds fetchedSince accepted count span
+unfolding run backwards writeIn lastWrite fetchIn firstFetch accepted count span
 counts-now = refl
 
 -- and of its 4,096 places one is handed out and the others are spare, by the claims and without a count of all addresses

@@ -2,3 +2,4 @@ pub mod Calls
 pub mod Rules
 pub mod Log
 pub mod Writes
+pub mod OwnWrites

@@ -19,7 +19,7 @@ use Rattle.cache.specs.End.{endSays, endState, endStore}
 use Rattle.cache.specs.HostWrite.{hostSays}
 use Rattle.cache.specs.Runs.{Call, begin, fetch, end, hostWrite, start, along, ran, delivers}
 use Rattle.history.specs.Journal.{journal, told, backwards}
-use Rattle.history.specs.Firsts.{remember, memory, fetchedSince, First, firstsAmong, firstsBy, firsts}
+use Rattle.history.specs.Firsts.{remember, memory, heldSince, First, firstsAmong, firstsBy, firsts}
 use Rattle.history.specs.Stores.{phaseBy, phase}
 use Rattle.history.specs.Claims.{common}
 use Rattle.history.proofs.EqualRuns.{equal-runs, equal-runs-lengths}
@@ -81,12 +81,13 @@ same-into : along delivers (start store) (into (0 ∷ 0 ∷ [])) ≡ along deliv
 unfolding same-firsts into common
 same-into = equal-runs-lengths store (into (0 ∷ 0 ∷ [])) (into (9 ∷ 9 ∷ [])) refl .exactly .1 refl .1
 
--- Records told: an address below 65,536 is in a record of an open command exactly if the command has fetched it since its begin.
+-- Records told: an address below 65,536 is in a record of an open command exactly if the command has fetched or written it since its
+-- begin.
 held-told :
     (store : List ℕ) (ps : List Call) (c x : ℕ) → isOpen (ran (start store) ps .state) c ≡ true → x < 65536
-    → held (recordsOf (ran (start store) ps .state) c) x ≡ fetchedSince (backwards [] (journal store ps)) c x
+    → held (recordsOf (ran (start store) ps .state) c) x ≡ heldSince (backwards [] (journal store ps)) c x
 held-told store ps c x o below =
-    ap (λ (rs : List Record). held rs x) (records-told store ps c o) ∙ runs-are-runs (fetchedSince (backwards [] (journal store ps)) c) .same x below
+    ap (λ (rs : List Record). held rs x) (records-told store ps c o) ∙ runs-are-runs (heldSince (backwards [] (journal store ps)) c) .same x below
 
 -- Store told: a store of sevens, in which command 1 begins, fetches the count and ends. Its part is zero, and the others are as they were.
 sevens : List ℕ

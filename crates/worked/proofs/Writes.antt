@@ -10,10 +10,10 @@ use Rattle.state.specs.Verdict.{accepted, verdict}
 use Rattle.cache.specs.Begin.{beginSays, beginState, beginStore}
 use Rattle.cache.specs.Fetch.{fetchSays, fetchState, fetchStore, fetchDest}
 use Rattle.cache.specs.End.{endSays, endState, endStore}
-use Rattle.cache.specs.OwnWrite.{ownSays, ownWindow}
+use Rattle.cache.specs.OwnWrite.{ownSays, ownState, ownStore, ownWindow}
 use Rattle.cache.specs.Runs.{along}
 use Rattle.history.specs.Journal.{backwards}
-use Rattle.history.specs.Firsts.{finds, fetchedSince}
+use Rattle.history.specs.Firsts.{writeIn, lastWrite, fetchIn, firstFetch}
 use Rattle.journal.specs.Writes.{Request, begins, ends, ownWrites, made, left, byteAt, beforeFetch}
 use Rattle.journal.proofs.Writes.{written-seen}
 
@@ -33,6 +33,7 @@ abbrev between : List Request
 between = ends 1 ∷ begins 2 ∷ []
 
 later-command : byteAt (beforeFetch store window dest (begins 1 ∷ []) write between) 2 16 1 16 ≡ 7
-unfolding store made left along backwards finds fetchedSince beginSays beginState beginStore fetchSays fetchState fetchStore fetchDest endSays endState
-    endStore ownSays ownWindow verdict accepted all ascending commandHolds holds total held span addresses place countFresh keep lowest highest joined
+unfolding store made left along backwards writeIn lastWrite fetchIn firstFetch beginSays beginState beginStore fetchSays fetchState fetchStore
+    fetchDest endSays endState endStore ownSays ownState ownStore ownWindow verdict accepted all ascending commandHolds holds total held span
+    addresses place countFresh keep lowest highest joined
 later-command = written-seen store window dest (begins 1 ∷ []) write between .later 2 16 1 16 refl refl refl refl

@@ -55,6 +55,10 @@ pub enum Call {
         span: Span,
     },
     MapEnd,
+    /// An own write of as many bytes as the span has.
+    MapOwn {
+        span: Span,
+    },
 }
 
 /// Bytes as they stand, and how many made ones follow.
@@ -107,13 +111,21 @@ impl Call {
             Call::MapBegin => "map-begin",
             Call::MapFetch { .. } => "map-fetch",
             Call::MapEnd => "map-end",
+            Call::MapOwn { .. } => "map-own",
         }
+    }
+
+    /// Whether it is one of the byte map.
+    pub fn is_of_the_map(&self) -> bool {
+        self.name().starts_with("map-")
     }
 
     /// The bytes that the call is given and that it only reads.
     pub fn data(&self, seed: u64) -> Vec<u8> {
         match self {
-            Call::Host { span } | Call::Own { span, .. } => made_bytes(seed, span.length as usize),
+            Call::Host { span } | Call::Own { span, .. } | Call::MapOwn { span } => {
+                made_bytes(seed, span.length as usize)
+            }
             Call::Write { data, .. } => made_bytes(seed, *data),
             Call::Read(bytes) | Call::Replay(bytes) => {
                 [bytes.given.clone(), made_bytes(seed, bytes.made)].concat()
@@ -138,7 +150,7 @@ impl fmt::Display for Call {
             Call::Fetch { command, span } | Call::Own { command, span } => {
                 write!(out, " {command} {}+{}", span.start, span.length)
             }
-            Call::Host { span } | Call::MapFetch { span } => {
+            Call::Host { span } | Call::MapFetch { span } | Call::MapOwn { span } => {
                 write!(out, " {}+{}", span.start, span.length)
             }
             Call::Show { command, index } => write!(out, " {command} {index}"),

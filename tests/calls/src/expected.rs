@@ -12,7 +12,7 @@ use crate::buffers::Buffers;
 use crate::call::Call;
 
 /// The number of the interface that this package is written for.
-const RELEASE: u64 = 1;
+const RELEASE: u64 = 2;
 
 /// What the calls in the reference are made on.
 #[derive(Clone)]
@@ -43,9 +43,7 @@ impl Expected {
                 Answer::of(made.map(|length| [length as u64]))
             }
             Call::Replay(_) => self.replay(data),
-            Call::MapFresh | Call::MapBegin | Call::MapFetch { .. } | Call::MapEnd => {
-                self.make_on_map(call)
-            }
+            _ if call.is_of_the_map() => self.make_on_map(call, data),
             _ => self.make_on_book(call, data),
         }
     }
@@ -64,11 +62,11 @@ impl Expected {
             Call::Fetch { command, span } => self.fetch(command, span),
             Call::Host { span } => {
                 let written = cache::host_write(window, span.start, data);
-                Answer::of(written.map(|count| [count]))
+                Answer::of(written.map(|count| [count, 0]))
             }
             Call::Own { command, span } => {
-                let written = cache::own_write(book, window, command, span.start, data);
-                Answer::of(written.map(|count| [count]))
+                let written = cache::own_write(book, store, window, command, span.start, data);
+                Answer::of(written.map(|counts| [counts.bytes, counts.fresh]))
             }
             Call::Show { command, index } => {
                 let shown = cache::show(book, command, index);
@@ -79,8 +77,9 @@ impl Expected {
     }
 
     /// The calls of the byte map.
-    fn make_on_map(&mut self, call: &Call) -> Answer {
+    fn make_on_map(&mut self, call: &Call, data: &[u8]) -> Answer {
         let map = &mut self.map;
+        let window = self.buffers.window.lent();
         match *call {
             Call::MapFresh => {
                 *map = ByteMap::FRESH;
@@ -89,10 +88,13 @@ impl Expected {
             Call::MapBegin => Answer::of(byte_map::begin(map).map(|()| [])),
             Call::MapEnd => Answer::of(byte_map::end(map).map(|had| [had.records, had.bytes])),
             Call::MapFetch { span } => {
-                let window = self.buffers.window.lent();
                 let destination = self.buffers.destination.lent();
                 let fetched = byte_map::fetch(map, window, span.start, span.length, destination);
                 Answer::of(fetched.map(|counts| [counts.fresh, counts.replayed]))
+            }
+            Call::MapOwn { span } => {
+                let written = byte_map::own_write(map, window, span.start, data);
+                Answer::of(written.map(|counts| [counts.bytes, counts.fresh]))
             }
             _ => unreachable!("{call} is no call of the byte map"),
         }

@@ -1,6 +1,6 @@
 //! A call, made in the proved library.
 
-use boundary::{ByteMap, Words};
+use boundary::{ByteMap, Words, Written};
 use reference::book::Span;
 
 use crate::answer::Answer;
@@ -48,9 +48,7 @@ impl Library {
                 Answer::status(framed.status, [framed.length as u64])
             }
             Call::Replay(_) => self.replay(data),
-            Call::MapFresh | Call::MapBegin | Call::MapFetch { .. } | Call::MapEnd => {
-                self.make_on_map(call)
-            }
+            _ if call.is_of_the_map() => self.make_on_map(call, data),
             _ => self.make_on_state(call, data),
         }
     }
@@ -75,7 +73,7 @@ impl Library {
     }
 
     /// The calls of the byte map.
-    fn make_on_map(&mut self, call: &Call) -> Answer {
+    fn make_on_map(&mut self, call: &Call, data: &[u8]) -> Answer {
         match *call {
             Call::MapFresh => {
                 boundary::map_fresh(&mut self.map);
@@ -86,6 +84,16 @@ impl Library {
             Call::MapEnd => {
                 let ended = boundary::map_end(&mut self.map);
                 Answer::status(ended.status, [ended.records as u64, ended.bytes as u64])
+            }
+            Call::MapOwn { span } => {
+                let window = self.buffers.window.lent();
+                let address = span.start as usize;
+                written(boundary::map_own_write(
+                    &mut self.map,
+                    window,
+                    address,
+                    data,
+                ))
             }
             _ => unreachable!("{call} is no call of the byte map"),
         }
@@ -119,20 +127,18 @@ impl Library {
 
     fn host(&mut self, address: usize, data: &[u8]) -> Answer {
         let window = self.buffers.window.lent();
-        let written = boundary::host_write(window, address, data);
-        Answer::status(written.status, [written.bytes as u64])
+        written(boundary::host_write(window, address, data))
     }
 
     fn own(&mut self, command: usize, address: usize, data: &[u8]) -> Answer {
-        let written = boundary::own_write(
+        written(boundary::own_write(
             &mut self.words,
             self.buffers.store.lent(),
             self.buffers.window.lent(),
             command,
             address,
             data,
-        );
-        Answer::status(written.status, [written.bytes as u64])
+        ))
     }
 
     fn map_fetch(&mut self, span: Span) -> Answer {
@@ -159,4 +165,14 @@ impl Library {
         let [written, carried, refused] = counts.map(|count| count as u64);
         Answer::new([written, carried, refused, u64::from(replayed.early)])
     }
+}
+
+/// What a write answers.
+fn written(reply: Written) -> Answer {
+    let Written {
+        status,
+        bytes,
+        fresh,
+    } = reply;
+    Answer::status(status, [bytes as u64, fresh as u64])
 }

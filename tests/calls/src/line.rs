@@ -8,6 +8,7 @@
 //! read HEX.. [+N]           replay HEX.. [+N]     these bytes, then N made ones
 //! write KIND C A+N DATA                           DATA made bytes
 //! map-fresh  map-begin  map-fetch A+N  map-end    calls of the byte map
+//! map-own A+N                                     one with N made bytes
 //!
 //! lend BUFFER N             lends the first N bytes of a buffer
 //! fill BUFFER SEED          gives a buffer the bytes of a seed
@@ -126,6 +127,9 @@ fn map_call(name: &str, rest: &mut Rest) -> Result<Option<Call>, String> {
         "map-begin" => Call::MapBegin,
         "map-fetch" => Call::MapFetch { span: rest.span()? },
         "map-end" => Call::MapEnd,
+        "map-own" => Call::MapOwn {
+            span: rest.span_of_data()?,
+        },
         _ => return Ok(None),
     }))
 }

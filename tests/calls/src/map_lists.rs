@@ -11,7 +11,7 @@ use crate::buffers::Name;
 use crate::call::{Call, Setting};
 use crate::file::Item;
 use crate::line::Line;
-use crate::random::{item, ODD};
+use crate::random::{item, shortened, ODD};
 
 /// How many calls a list has.
 pub const CALLS: u64 = 100;
@@ -250,14 +250,13 @@ impl Draft {
         match self.numbers.below(100) {
             0..=9 => Call::MapBegin,
             10..=12 => Call::MapEnd,
-            13..=19 => {
-                let span = self.span();
-                let length = span.length.min(4_200);
-                Call::Host {
-                    span: Span { length, ..span },
-                }
-            }
+            13..=19 => Call::Host {
+                span: shortened(self.span()),
+            },
             20 => Call::MapFresh,
+            21..=39 => Call::MapOwn {
+                span: shortened(self.span()),
+            },
             _ => Call::MapFetch { span: self.span() },
         }
     }

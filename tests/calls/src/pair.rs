@@ -272,15 +272,17 @@ mod tests {
                 let before = pair.expected.book.clone();
                 let mut tally = Tally::default();
                 pair.carry_out(&item, &mut tally);
-                let Line::Call(Call::Fetch { command, span }, _) = item.line else {
-                    continue;
+                let (command, span) = match item.line {
+                    Line::Call(Call::Fetch { command, span }, _) => (command, span),
+                    Line::Call(Call::Own { command, span }, _) => (command, span),
+                    _ => continue,
                 };
                 let (records, bytes) = records_and_bytes(&before, command);
                 let (_, bytes_after) = records_and_bytes(&pair.expected.book, command);
                 if records == 64 {
-                    let all_fresh = span.length > 0 && bytes_after - bytes == span.length;
-                    touched += u64::from(all_fresh);
-                    refused += tally.count_of("fetch", 24);
+                    let all_new = span.length > 0 && bytes_after - bytes == span.length;
+                    touched += u64::from(all_new);
+                    refused += tally.count_of("fetch", 24) + tally.count_of("own", 24);
                 }
             }
         }

@@ -229,33 +229,36 @@ impl Draft {
                 command: self.command(),
             },
             9..=14 => Call::Host {
-                span: self.short_span(),
+                span: shortened(self.span()),
             },
-            15..=20 => Call::Own {
-                command: self.command(),
-                span: self.short_span(),
-            },
-            21..=26 => Call::Show {
+            15..=24 => {
+                let command = self.command();
+                let span = shortened(self.span_of(command));
+                Call::Own { command, span }
+            }
+            25..=29 => Call::Show {
                 command: self.command(),
                 index: self.index(),
             },
-            27..=30 => self.read(),
-            31..=35 => self.write(),
-            _ => self.fetch(),
+            30..=32 => self.read(),
+            33..=36 => self.write(),
+            _ => {
+                let command = self.command();
+                let span = self.span_of(command);
+                Call::Fetch { command, span }
+            }
         }
     }
 
-    /// A fetch; where the state was set, one in four times of a span that
+    /// A span for a command; where the state was set, one in four times one that
     /// touches a record.
-    fn fetch(&mut self) -> Call {
-        let command = self.command();
+    fn span_of(&mut self, command: u64) -> Span {
         let words = self.words.get(command as usize);
         let beside = match words {
             Some(words) if self.numbers.one_in(4) => states::beside(&mut self.numbers, words),
             _ => None,
         };
-        let span = beside.unwrap_or_else(|| self.span());
-        Call::Fetch { command, span }
+        beside.unwrap_or_else(|| self.span())
     }
 
     fn odd(&mut self) -> u64 {
@@ -287,13 +290,6 @@ impl Draft {
             length = self.odd();
         }
         Span { start, length }
-    }
-
-    /// A span of as many bytes as can be made.
-    fn short_span(&mut self) -> Span {
-        let span = self.span();
-        let length = span.length.min(4_200);
-        Span { length, ..span }
     }
 
     /// A frame of any fields, and mostly as many bytes as belong to it.
@@ -353,6 +349,12 @@ impl Draft {
             _ => [kind, command, address, length],
         }
     }
+}
+
+/// The span, with as many bytes as are made for it.
+pub fn shortened(span: Span) -> Span {
+    let length = span.length.min(4_200);
+    Span { length, ..span }
 }
 
 #[cfg(test)]

@@ -23,20 +23,23 @@ pub fn any_brim(draft: &mut Draft) {
     }
 }
 
-/// Fills the command to its last byte with spans side by side; then a fresh
-/// byte is refused, alone or behind held ones (23), and held bytes are not.
+/// Fills the command to its last byte with spans side by side; then a byte more
+/// is refused, alone or behind held ones (23), and held bytes are not.
 fn last_byte(draft: &mut Draft, command: u64) {
     let start = draft.numbers.between(1, WINDOW - BYTES - 1);
     let mut held = 0;
     while held < BYTES {
         let length = draft.numbers.between(1, BYTES - held);
-        draft.fetch(command, start + held, length);
+        draft.fetch_or_write(command, start + held, length);
         held += length;
     }
     overwrite(draft, command, start);
     let inside = draft.numbers.below(BYTES);
+    let data = draft.numbers.bytes(2);
     draft.fetch(command, start + BYTES, 1);
+    draft.own_write(command, start + BYTES - 1, &data);
     draft.fetch(command, start - 1, BYTES);
+    draft.own_write(command, start + inside, &data[..1]);
     draft.fetch(command, start + inside, 1);
     draft.fetch(command, start, BYTES);
 }
@@ -54,20 +57,21 @@ fn last_record(draft: &mut Draft, command: u64) {
     let order = 2 * draft.numbers.below(RECORDS / 2) + 1;
     for turn in 0..RECORDS {
         let place = turn * order % RECORDS;
-        draft.fetch(command, start + place * distance, length);
+        draft.fetch_or_write(command, start + place * distance, length);
     }
     overwrite(draft, command, start);
     let behind = start + RECORDS * distance;
     let left = BYTES - RECORDS * length;
     draft.fetch(command, behind, 1);
+    draft.own_write(command, behind, &[7]);
     draft.fetch(command, behind, left);
     draft.fetch(command, behind, left + 1);
     let touched = draft.numbers.below(RECORDS);
-    draft.fetch(command, start + touched * distance + length, 1);
+    draft.fetch_or_write(command, start + touched * distance + length, 1);
     let joined = draft.numbers.below(RECORDS - 1);
-    draft.fetch(command, start + joined * distance, distance + 1);
-    draft.fetch(command, behind, 1);
-    draft.fetch(command, behind + 2, 1);
+    draft.fetch_or_write(command, start + joined * distance, distance + 1);
+    draft.fetch_or_write(command, behind, 1);
+    draft.fetch_or_write(command, behind + 2, 1);
     draft.fetch(command, start, RECORDS * distance);
 }
 

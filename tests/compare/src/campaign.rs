@@ -8,7 +8,7 @@ use sampling::arguments::Arguments;
 
 use crate::case::{Case, Outcome};
 use crate::fixed;
-use crate::tally::{Tally, LETTERS, REFUSALS};
+use crate::tally::{Tally, LETTERS, REFUSALS, WRITE_REFUSALS};
 use crate::workers;
 
 /// So many journals are compared before the sums are looked at again.
@@ -91,7 +91,7 @@ impl Sums {
 
     /// Right cases, and what the journals reached.
     pub fn passed(&self) -> u64 {
-        let to_reach = (LETTERS.len() + REFUSALS.len()) as u64;
+        let to_reach = (LETTERS.len() + REFUSALS.len() + WRITE_REFUSALS.len()) as u64;
         self.fixed + self.journals + to_reach - self.failed()
     }
 }

@@ -22,7 +22,7 @@ pub struct Draft {
     limit: usize,
     bytes: Vec<u8>,
     open: [bool; 8],
-    fetched: [Vec<(u64, u64)>; 8],
+    held: [Vec<(u64, u64)>; 8],
 }
 
 impl Draft {
@@ -33,7 +33,7 @@ impl Draft {
             limit,
             bytes: vec![],
             open: [false; 8],
-            fetched: Default::default(),
+            held: Default::default(),
         }
     }
 
@@ -57,9 +57,10 @@ impl Draft {
         self.open[command as usize]
     }
 
-    /// A span that the command asked for since its begin, if there is one.
+    /// A span that the command asked for or wrote since its begin, if there is
+    /// one.
     pub fn earlier_span(&mut self, command: u64) -> Option<(u64, u64)> {
-        let spans = &self.fetched[command as usize];
+        let spans = &self.held[command as usize];
         if spans.is_empty() {
             return None;
         }
@@ -85,16 +86,15 @@ impl Draft {
     /// cannot be read.
     pub fn fetch(&mut self, command: u64, address: u64, length: u64) {
         let length = length.min(LONGEST_CALL);
-        let added = self.add(&layout::frame(1, command, address, length, &[]));
-        if added && self.is_open(command) && address + length <= WINDOW {
-            self.fetched[command as usize].push((address, length));
+        if self.add(&layout::frame(1, command, address, length, &[])) {
+            self.remember(command, address, length);
         }
     }
 
     pub fn end(&mut self, command: u64) {
         if self.add(&layout::frame(2, command, 0, 0, &[])) {
             self.open[command as usize] = false;
-            self.fetched[command as usize].clear();
+            self.held[command as usize].clear();
         }
     }
 
@@ -111,7 +111,27 @@ impl Draft {
     }
 
     pub fn own_write(&mut self, command: u64, address: u64, data: &[u8]) {
-        self.add(&layout::frame(4, command, address, data.len() as u64, data));
+        let length = data.len() as u64;
+        if self.add(&layout::frame(4, command, address, length, data)) {
+            self.remember(command, address, length);
+        }
+    }
+
+    /// A fetch or, one in four, an own write of any bytes.
+    pub fn fetch_or_write(&mut self, command: u64, address: u64, length: u64) {
+        if self.numbers.one_in(4) {
+            let data = self.numbers.bytes(length as usize);
+            self.own_write(command, address, &data);
+        } else {
+            self.fetch(command, address, length);
+        }
+    }
+
+    /// Takes in a span that an open command holds, unless it was refused.
+    fn remember(&mut self, command: u64, address: u64, length: u64) {
+        if self.is_open(command) && address + length <= WINDOW {
+            self.held[command as usize].push((address, length));
+        }
     }
 
     /// Adds any bytes, if they find room, and answers whether they did.

@@ -20,6 +20,9 @@ pub fn cases() -> Vec<Case> {
     let mut cases = vec![
         Case::new("the worked example", WORKED_FRAMES, WORKED_LOG),
         Case::new("situation K", situation_k(), SITUATION_K_LOG),
+        Case::new("situation J", situation_j(), SITUATION_J_LOG),
+        Case::new("own writes", own_writes(), OWN_WRITES_LOG),
+        Case::new("own writes of 4,096 bytes", whole_part(), WHOLE_PART_LOG),
         Case::new("the empty input", [], ""),
         Case::new("situation B", situation_b(), SITUATION_B_LOG),
         Case::new(
@@ -59,17 +62,118 @@ const SITUATION_K_LOG: &str = "1 B ok\n\
                                5 B ok\n\
                                6 F ok 3 0 6e6577\n";
 
-/// Begin of command 1, fetches of these spans, and its end.
-fn fetches(spans: &[(u64, u64)]) -> Vec<u8> {
-    let mut journal = frame(0, 1, 0, 0, &[]);
-    for (address, length) in spans {
-        journal.extend(frame(1, 1, *address, *length, &[]));
-    }
-    journal.extend(frame(2, 1, 0, 0, &[]));
-    journal
+/// A fetch by command 1.
+fn fetch(address: u64, length: u64) -> Vec<u8> {
+    frame(1, 1, address, length, &[])
 }
 
-/// Situation B as F-1 of 02 (the agreed changes) has it, ended after its second
+/// An own write by command 1.
+fn own_write(address: u64, data: &[u8]) -> Vec<u8> {
+    frame(4, 1, address, data.len() as u64, data)
+}
+
+/// Begin of command 1, these frames, and its end.
+fn begun_and_ended(frames: &[Vec<u8>]) -> Vec<u8> {
+    [
+        frame(0, 1, 0, 0, &[]),
+        frames.concat(),
+        frame(2, 1, 0, 0, &[]),
+    ]
+    .concat()
+}
+
+/// The same with fetches of these spans.
+fn fetches(spans: &[(u64, u64)]) -> Vec<u8> {
+    let frames = spans
+        .iter()
+        .map(|&(address, length)| fetch(address, length));
+    begun_and_ended(&frames.collect::<Vec<_>>())
+}
+
+/// Situation J as F-3 of 02 (the agreed changes) has it: fetch, own write,
+/// fetch, with a host write before the last one.
+fn situation_j() -> Vec<u8> {
+    begun_and_ended(&[
+        fetch(16, 2),
+        own_write(16, b"ab"),
+        frame(3, 0, 16, 2, b"zz"),
+        fetch(16, 2),
+    ])
+}
+
+/// The second fetch gets what the command wrote.
+const SITUATION_J_LOG: &str = "1 B ok\n\
+                               2 F ok 2 0 0000\n\
+                               3 W ok 2 0\n\
+                               4 H ok 2\n\
+                               5 F ok 0 2 6162\n\
+                               6 E ok 1 2\n";
+
+/// Own writes of what is held, of what is not and of both, and of no bytes, with
+/// another command beside that sees the window alone.
+fn own_writes() -> Vec<u8> {
+    [
+        begun_and_ended(&[
+            own_write(16_384, b""),
+            own_write(16, b"abcd"),
+            fetch(14, 4),
+            own_write(18, b"wxyz"),
+            own_write(40, b""),
+            frame(0, 2, 0, 0, &[]),
+            frame(3, 0, 14, 8, b"........"),
+            fetch(14, 10),
+            frame(1, 2, 14, 10, &[]),
+            own_write(15, b"!"),
+            fetch(14, 3),
+            frame(1, 2, 14, 3, &[]),
+        ]),
+        fetch(14, 3),
+    ]
+    .concat()
+}
+
+/// The numbers of a write are its bytes and the addresses that were not held.
+const OWN_WRITES_LOG: &str = "1 B ok\n\
+                              2 W ok 0 0\n\
+                              3 W ok 4 4\n\
+                              4 F ok 2 2 00006162\n\
+                              5 W ok 4 2\n\
+                              6 W ok 0 0\n\
+                              7 B ok\n\
+                              8 H ok 8\n\
+                              9 F ok 2 8 000061627778797a0000\n\
+                              10 F ok 10 0 2e2e2e2e2e2e2e2e0000\n\
+                              11 W ok 1 0\n\
+                              12 F ok 0 3 002161\n\
+                              13 F ok 0 3 2e2e2e\n\
+                              14 E ok 1 10\n\
+                              15 F no 21\n";
+
+/// All that a command may hold in one write, and then some more.
+fn whole_part() -> Vec<u8> {
+    begun_and_ended(&[
+        own_write(100, &[7; 4_096]),
+        own_write(4_196, b"8"),
+        own_write(4_195, b"89"),
+        own_write(99, b"8"),
+        own_write(4_195, b"9"),
+        fetch(4_194, 2),
+        fetch(4_194, 3),
+    ])
+}
+
+/// What is held can be written over, and no more is held.
+const WHOLE_PART_LOG: &str = "1 B ok\n\
+                              2 W ok 4096 4096\n\
+                              3 W no 23\n\
+                              4 W no 23\n\
+                              5 W no 23\n\
+                              6 W ok 1 0\n\
+                              7 F ok 0 2 0739\n\
+                              8 F no 23\n\
+                              9 E ok 1 4096\n";
+
+/// Situation B as F-1 of 02 has it, ended after its second
 /// fetch, and whole.
 fn situation_b() -> Vec<u8> {
     let touching = [(0, 4), (4, 4), (2, 4)];
@@ -120,40 +224,58 @@ const NO_BYTES_LOG: &str = "1 B ok\n\
                             7 F ok 0 0 -\n\
                             8 E ok 2 4\n";
 
-/// Journals of 64 single bytes, two addresses apart, with fetches behind them
-/// and the answers to those and to the end.
+/// Journals of 64 single bytes, two addresses apart, with fetches and own writes
+/// of one byte behind them and the answers to those and to the end. A row has the
+/// letters and the addresses.
 fn about_64_records() -> Vec<Case> {
     let fresh = "F ok 1 0 00";
-    let closed: Vec<(u64, u64)> = (0..63).rev().map(|gap| (21 + 2 * gap, 1)).collect();
+    let closed: Vec<(char, u64)> = (0..63).rev().map(|gap| ('F', 21 + 2 * gap)).collect();
     let closing = [vec![fresh; 63], vec!["E ok 1 127"]].concat();
     vec![
-        of_64_records("one apart", &[(148, 1)], &["F no 24", "E ok 64 64"]),
-        of_64_records("one above", &[(147, 1)], &[fresh, "E ok 64 65"]),
-        of_64_records("one below", &[(19, 1)], &[fresh, "E ok 64 65"]),
-        of_64_records("one gap closed", &[(81, 1)], &[fresh, "E ok 63 65"]),
+        of_64_records("one apart", &[('F', 148)], &["F no 24", "E ok 64 64"]),
+        of_64_records("one above", &[('F', 147)], &[fresh, "E ok 64 65"]),
+        of_64_records("one below", &[('F', 19)], &[fresh, "E ok 64 65"]),
+        of_64_records("one gap closed", &[('F', 81)], &[fresh, "E ok 63 65"]),
         of_64_records(
             "one gap closed and two apart",
-            &[(81, 1), (148, 1), (150, 1)],
+            &[('F', 81), ('F', 148), ('F', 150)],
             &[fresh, fresh, "F no 24", "E ok 64 66"],
         ),
         of_64_records(
             "a touching one and one apart",
-            &[(147, 1), (149, 1), (150, 1), (148, 1)],
+            &[('F', 147), ('F', 149), ('F', 150), ('F', 148)],
             &[fresh, "F no 24", "F no 24", fresh, "E ok 64 66"],
         ),
         of_64_records("all gaps closed", &closed, &closing),
+        of_64_records(
+            "written over and apart",
+            &[('W', 148), ('W', 146), ('W', 147), ('W', 81), ('W', 150)],
+            &[
+                "W no 24",
+                "W ok 1 0",
+                "W ok 1 1",
+                "W ok 1 1",
+                "W ok 1 1",
+                "E ok 64 67",
+            ],
+        ),
     ]
 }
 
 /// One of these cases, with the answers behind those to the 64 bytes.
-fn of_64_records(name: &str, spans: &[(u64, u64)], answers: &[&str]) -> Case {
-    let singles: Vec<(u64, u64)> = (0..64).map(|place| (20 + 2 * place, 1)).collect();
+fn of_64_records(name: &str, behind: &[(char, u64)], answers: &[&str]) -> Case {
+    let singles = (0..64).map(|place| fetch(20 + 2 * place, 1));
+    let behind = behind.iter().map(|(letter, address)| match letter {
+        'W' => own_write(*address, &[7]),
+        _ => fetch(*address, 1),
+    });
+    let frames: Vec<Vec<u8>> = singles.chain(behind).collect();
     let all = [&["B ok"], &["F ok 1 0 00"; 64][..], answers].concat();
     let numbered = all.iter().enumerate();
     let log: String = numbered
         .map(|(place, answer)| format!("{} {answer}\n", place + 1))
         .collect();
-    let journal = fetches(&[&singles, spans].concat());
+    let journal = begun_and_ended(&frames);
     Case::new(&format!("64 records, {name}"), journal, log)
 }
 

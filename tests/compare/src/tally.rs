@@ -9,12 +9,15 @@ pub const LETTERS: [char; 5] = ['B', 'F', 'E', 'H', 'W'];
 /// The refusals that frames can bring about in a log program.
 pub const REFUSALS: [u8; 10] = [1, 2, 3, 4, 5, 9, 21, 22, 23, 24];
 
+/// Those of them that an own write can get.
+pub const WRITE_REFUSALS: [u8; 4] = [9, 21, 23, 24];
+
 /// Lines by what they say.
 #[derive(Clone, Debug, Default, PartialEq, Eq)]
 pub struct Tally {
     pub frames: u64,
     accepted: BTreeMap<char, u64>,
-    refused: BTreeMap<u8, u64>,
+    refused: BTreeMap<(u8, char), u64>,
 }
 
 impl Tally {
@@ -30,7 +33,8 @@ impl Tally {
 
     fn count(&mut self, line: &str) {
         let mut fields = line.split(' ').skip(1);
-        let letter = fields.next().and_then(|field| field.chars().next());
+        let first = fields.next().and_then(|field| field.chars().next());
+        let letter = first.unwrap_or('?');
         let accepted = match fields.next() {
             Some("ok") => true,
             Some("no") => false,
@@ -38,9 +42,9 @@ impl Tally {
         };
         self.frames += 1;
         if accepted {
-            *self.accepted.entry(letter.unwrap_or('?')).or_default() += 1;
+            *self.accepted.entry(letter).or_default() += 1;
         } else if let Some(number) = fields.next().and_then(|field| field.parse().ok()) {
-            *self.refused.entry(number).or_default() += 1;
+            *self.refused.entry((number, letter)).or_default() += 1;
         }
     }
 
@@ -50,8 +54,8 @@ impl Tally {
         for (letter, count) in &other.accepted {
             *self.accepted.entry(*letter).or_default() += count;
         }
-        for (number, count) in &other.refused {
-            *self.refused.entry(*number).or_default() += count;
+        for (line, count) in &other.refused {
+            *self.refused.entry(*line).or_default() += count;
         }
     }
 
@@ -62,16 +66,32 @@ impl Tally {
 
     /// How many lines have this refusal number.
     pub fn refused(&self, number: u8) -> u64 {
-        self.refused.get(&number).copied().unwrap_or(0)
+        let lines = self.refused.range((number, '\0')..=(number, char::MAX));
+        lines.map(|(_, count)| count).sum()
+    }
+
+    /// How many of them are those of an own write.
+    fn refused_writes(&self, number: u8) -> u64 {
+        self.refused.get(&(number, 'W')).copied().unwrap_or(0)
     }
 
     /// What frames can bring about and did not, in words.
     pub fn missing(&self) -> Vec<String> {
+        self.missing_of(&REFUSALS, &WRITE_REFUSALS)
+    }
+
+    /// Which of the letters have no accepted call, which of these numbers no
+    /// line, and which of the others no own write, in words.
+    pub fn missing_of(&self, refusals: &[u8], of_writes: &[u8]) -> Vec<String> {
         let letters = LETTERS.iter().filter(|letter| self.accepted(**letter) == 0);
-        let refusals = REFUSALS.iter().filter(|number| self.refused(**number) == 0);
+        let refusals = refusals.iter().filter(|number| self.refused(**number) == 0);
+        let of_writes = of_writes
+            .iter()
+            .filter(|number| self.refused_writes(**number) == 0);
         letters
             .map(|letter| format!("an accepted {letter}"))
             .chain(refusals.map(|number| format!("refusal {number}")))
+            .chain(of_writes.map(|number| format!("refusal {number} of an own write")))
             .collect()
     }
 }
@@ -83,9 +103,9 @@ impl fmt::Display for Tally {
         for (letter, count) in &self.accepted {
             writeln!(out, "  {letter}: {count}")?;
         }
-        writeln!(out, "refused lines by number:")?;
-        for (number, count) in &self.refused {
-            writeln!(out, "  {number}: {count}")?;
+        writeln!(out, "refused lines by number and letter:")?;
+        for ((number, letter), count) in &self.refused {
+            writeln!(out, "  {number} {letter}: {count}")?;
         }
         Ok(())
     }

@@ -1,5 +1,5 @@
-//! Stretches of fetches that touch held spans on the lower side, on the upper
-//! side and on both, and single bytes that become one record.
+//! Stretches of fetches and own writes that touch held spans on the lower side,
+//! on the upper side and on both, and single bytes that become one record.
 
 use sampling::generator::Generator;
 
@@ -33,16 +33,16 @@ fn beside(draft: &mut Draft, command: u64) {
         let end = start + length;
         let other = draft.numbers.between(1, 40);
         match draft.numbers.below(4) {
-            0 => draft.fetch(command, start - other, other),
-            1 => draft.fetch(command, end, other),
+            0 => draft.fetch_or_write(command, start - other, other),
+            1 => draft.fetch_or_write(command, end, other),
             2 => {
                 let between = draft.numbers.between(1, 20);
-                draft.fetch(command, end + between, other);
-                draft.fetch(command, end, between);
+                draft.fetch_or_write(command, end + between, other);
+                draft.fetch_or_write(command, end, between);
             }
             _ => {
-                draft.fetch(command, end, 0);
-                draft.fetch(command, start, 0);
+                draft.fetch_or_write(command, end, 0);
+                draft.fetch_or_write(command, start, 0);
             }
         }
     }
@@ -60,7 +60,7 @@ fn chain(draft: &mut Draft, command: u64) {
     };
     let gaps = shuffled(&mut draft.numbers, count - 1);
     for gap in &gaps[..closed as usize] {
-        draft.fetch(command, start + 2 * gap + 1, 1);
+        draft.fetch_or_write(command, start + 2 * gap + 1, 1);
     }
 }
 
@@ -77,7 +77,7 @@ fn full_chain(draft: &mut Draft, command: u64) {
     let gaps = shuffled(&mut draft.numbers, RECORDS - 1);
     let closed = draft.numbers.between(1, RECORDS - 1);
     for gap in &gaps[..closed as usize] {
-        draft.fetch(command, start + 2 * gap + 1, 1);
+        draft.fetch_or_write(command, start + 2 * gap + 1, 1);
         draft.fetch(command, apart, 1);
         draft.fetch(command, apart + 2, 1);
         apart += 2;
@@ -94,7 +94,7 @@ fn singles(draft: &mut Draft, command: u64, count: u64) -> u64 {
         _ => draft.numbers.below(last),
     };
     for place in shuffled(&mut draft.numbers, count) {
-        draft.fetch(command, start + 2 * place, 1);
+        draft.fetch_or_write(command, start + 2 * place, 1);
     }
     start
 }

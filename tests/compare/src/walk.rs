@@ -103,7 +103,7 @@ impl Place<'_> {
     }
 
     /// A write of the host or of the command, half of them where the command
-    /// has fetched before.
+    /// has fetched or written before.
     fn write(&self, draft: &mut Draft, command: u64) {
         let (address, length) = self.span_or_earlier(draft, command, 2);
         let most = if draft.numbers.one_in(40) {

@@ -11,8 +11,8 @@ const WINDOW: u64 = 16_384;
 /// An address and a length.
 type Span = (u64, u64);
 
-/// Counts over journals. An earlier span is one that the same command fetched
-/// since its begin; held are the bytes of earlier spans of any open command.
+/// Counts over journals. An earlier span is one that the same command fetched or
+/// wrote since its begin; held are the bytes of earlier spans of any open command.
 #[derive(Debug, Default)]
 pub struct Census {
     pub journals: u64,
@@ -40,6 +40,8 @@ pub struct Census {
     /// Accepted writes over held bytes.
     pub host_over_held: u64,
     pub own_over_held: u64,
+    /// Own writes over some addresses that the command held and some others.
+    pub own_mixed: u64,
     /// Fetches that delivered other bytes than stood in the window.
     pub stale: u64,
     /// The most commands that were open at once.
@@ -98,9 +100,16 @@ impl Census {
                 self.look_at_span((address, data.len() as u64), accepted);
                 self.host_over_held += u64::from(accepted && device.write(address, data));
             }
-            Step::OwnWrite { address, data, .. } => {
-                self.look_at_span((address, data.len() as u64), accepted);
+            Step::OwnWrite {
+                command,
+                address,
+                data,
+            } => {
+                let span = (address, data.len() as u64);
+                self.look_at_span(span, accepted);
                 self.own_over_held += u64::from(accepted && device.write(address, data));
+                self.own_mixed += u64::from(accepted && !["0", answer[1]].contains(&answer[2]));
+                device.hold(command, span, accepted);
             }
         }
     }
@@ -116,7 +125,7 @@ impl Census {
             return;
         }
         self.stale += u64::from(digits != device.digits(span));
-        let earlier = device.spans[command as usize].as_mut().unwrap();
+        let earlier = device.spans[command as usize].as_ref().unwrap();
         let meets = |meet: fn(Span, Span) -> bool| earlier.iter().any(|other| meet(span, *other));
         self.overlapping += u64::from(meets(overlap));
         self.nested += u64::from(meets(nest));
@@ -126,7 +135,7 @@ impl Census {
             self.touch_above += u64::from(above && !below);
             self.touch_both += u64::from(below && above);
         }
-        earlier.push(span);
+        device.hold(command, span, true);
     }
 }
 
@@ -135,7 +144,7 @@ fn fields(line: &str) -> Vec<&str> {
     line.split(' ').skip(2).chain(["-"; 4]).collect()
 }
 
-/// The window, and the spans that each open command has fetched.
+/// The window, and the spans that each open command has fetched or written.
 struct Device {
     window: Vec<u8>,
     spans: [Option<Vec<Span>>; 8],
@@ -151,6 +160,15 @@ impl Device {
 
     fn open(&self) -> usize {
         self.spans.iter().flatten().count()
+    }
+
+    /// Takes an earlier span into those of its command, if it was accepted and
+    /// has a byte.
+    fn hold(&mut self, command: u64, span: Span, accepted: bool) {
+        let open = self.spans[command as usize].as_mut();
+        if let Some(spans) = open.filter(|_| accepted && span.1 > 0) {
+            spans.push(span);
+        }
     }
 
     /// Carries out a write and answers whether it met held bytes.

@@ -59,16 +59,18 @@ fn of_a_long_line_the_part_about_the_difference_is_shown() {
 #[test]
 fn lines_are_counted_by_letter_and_number() {
     let log = b"1 B ok\n2 F ok 1 0 00\n3 F ok 0 0 -\n4 F no 21\n5 ? no 2\n";
+    let writes = b"1 W no 24\n2 W no 9\n3 F no 24\n";
     let mut tally = Tally::of_log(log);
     tally.add(&Tally::of_log(b"1 E no 21\n"));
+    tally.add(&Tally::of_log(writes));
     tally.add(&Tally::of_log(b"input too long\n"));
-    assert_eq!(tally.frames, 6);
+    assert_eq!(tally.frames, 9);
     assert_eq!(
         LETTERS.map(|letter| tally.accepted(letter)),
         [1, 2, 0, 0, 0]
     );
     let refused = REFUSALS.map(|number| tally.refused(number));
-    assert_eq!(refused, [0, 1, 0, 0, 0, 0, 2, 0, 0, 0]);
+    assert_eq!(refused, [0, 1, 0, 0, 0, 1, 2, 0, 0, 2]);
     let missing = tally.missing();
     assert_eq!(
         missing[..4],
@@ -80,6 +82,10 @@ fn lines_are_counted_by_letter_and_number() {
         ]
     );
     assert_eq!(missing.len(), 11);
+    assert_eq!(
+        missing[9..],
+        ["refusal 21 of an own write", "refusal 23 of an own write"]
+    );
 }
 
 #[test]

@@ -69,7 +69,8 @@ fn held_spans_are_touched_on_either_side_on_both_and_at_the_limit() {
 fn nested_spans_lie_in_each_other() {
     let census = readable("nested spans");
     assert!(census.nested > 1_500, "{census:?}");
-    assert_eq!(census.overlapping, 0, "{census:?}");
+    // An own write is cut short, and so it may overlap another span.
+    assert!(census.overlapping < 50, "{census:?}");
 }
 
 #[test]
@@ -102,6 +103,7 @@ fn held_bytes_are_overwritten_and_replayed() {
     let census = readable("writes over held bytes");
     assert!(census.host_over_held > 2_000, "{census:?}");
     assert!(census.own_over_held > 2_000, "{census:?}");
+    assert!(census.own_mixed > 500, "{census:?}");
     assert!(census.stale > 3_000, "{census:?}");
 }
 
@@ -161,6 +163,7 @@ fn mixed_journals_have_everything() {
         census.above_16_bits,
         census.host_over_held,
         census.own_over_held,
+        census.own_mixed,
         census.stale,
     ] {
         assert!(count > 100, "{census:?}");

@@ -9,8 +9,8 @@ use reference::refusal::Refusal;
 /// The length of the window.
 const WINDOW_BYTES: usize = 16_384;
 
-/// A part of a fetch: addresses one behind the other that all were in one record
-/// before it, or all in none.
+/// A part of a fetch or of an own write: addresses one behind the other that all
+/// were in one record before it, or all in none.
 #[derive(Clone, Debug, PartialEq, Eq)]
 pub struct Part {
     /// Where the record starts, if there is one.
@@ -25,9 +25,11 @@ pub enum Done {
     Begun,
     /// The parts by ascending address, and the records of the command afterwards.
     Fetched(Vec<Part>, Vec<Span>),
+    /// The same of an own write.
+    OwnWritten(Vec<Part>, Vec<Span>),
     /// How many records and bytes the command had.
     Ended(u64, u64),
-    Written,
+    HostWritten,
 }
 
 /// All that the calls take.
@@ -65,16 +67,13 @@ impl Device {
             }
             Step::HostWrite { address, data } => {
                 cache::host_write(&mut self.window, address, data)?;
-                Ok(Done::Written)
+                Ok(Done::HostWritten)
             }
             Step::OwnWrite {
                 command,
                 address,
                 data,
-            } => {
-                cache::own_write(&self.book, &mut self.window, command, address, data)?;
-                Ok(Done::Written)
-            }
+            } => self.own_write(command, address, data),
         }
     }
 
@@ -97,16 +96,26 @@ impl Device {
         ))
     }
 
+    fn own_write(&mut self, command: u64, address: u64, data: &[u8]) -> Result<Done, Refusal> {
+        let before = self.records(command);
+        let (book, store) = (&mut self.book, &mut self.store);
+        cache::own_write(book, store, &mut self.window, command, address, data)?;
+        Ok(Done::OwnWritten(
+            parts(&before, address, data),
+            self.records(command),
+        ))
+    }
+
     /// The records of a command, of which a closed one has none.
     fn records(&self, command: u64) -> Vec<Span> {
         self.book.commands[command as usize].records().to_vec()
     }
 }
 
-/// The parts of what was delivered from an address on, given the records before.
-fn parts(before: &[Span], address: u64, delivered: &[u8]) -> Vec<Part> {
+/// The parts of bytes from an address on, given the records before.
+fn parts(before: &[Span], address: u64, bytes: &[u8]) -> Vec<Part> {
     let mut parts: Vec<Part> = vec![];
-    for (place, byte) in (address..).zip(delivered) {
+    for (place, byte) in (address..).zip(bytes) {
         let record = before
             .iter()
             .find(|span| (span.start..span.start + span.length).contains(&place))

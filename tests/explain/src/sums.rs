@@ -11,7 +11,7 @@ use reference::log::INPUT_BYTES;
 use crate::case::Case;
 
 /// What must be among the lines of the cases; each is a check of its own.
-pub const TO_REACH: [&str; 31] = [
+pub const TO_REACH: [&str; 39] = [
     " begins\n",
     " ends: 0 records, 0 bytes\n",
     " ends: 1 record, 1 byte\n",
@@ -28,6 +28,12 @@ pub const TO_REACH: [&str; 31] = [
     "+0: nothing; no records\n",
     "+0: nothing; records ",
     ": fresh 0+",
+    "+1: over ",
+    "+1: new ",
+    ", over ",
+    ", new ",
+    " writes 40+0: nothing; records 14+8\n",
+    " writes 16384+0: nothing; no records\n",
     "...) command ",
     "begins: refused (22): the command is open already\n",
     "ends: refused (21): the command is not open\n",
@@ -40,6 +46,8 @@ pub const TO_REACH: [&str; 31] = [
     ": refused (21): the command is not open\n",
     ": refused (23): the command would hold more than 4096 bytes\n",
     ": refused (24): the command would have more than 64 records\n",
+    "writes 4196+1: refused (23): the command would hold more than 4096 bytes\n",
+    "writes 148+1: refused (24): the command would have more than 64 records\n",
     ", but ok",
     ", but no",
     " held, 0 failed\n",

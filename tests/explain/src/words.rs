@@ -12,13 +12,18 @@ pub fn of_step(step: &Step, came: &Result<Done, Refusal>) -> String {
     match came {
         Ok(Done::Begun) => head,
         Ok(Done::Fetched(parts, records)) => {
-            format!("{head}: {}; {}", delivered(parts), held(records))
+            let parts = joined(parts, ["replayed", "fresh"]);
+            format!("{head}: {parts}; {}", held(records))
+        }
+        Ok(Done::OwnWritten(parts, records)) => {
+            let parts = joined(parts, ["over", "new"]);
+            format!("{head}: {parts}; {}", held(records))
         }
         Ok(Done::Ended(records, bytes)) => {
             let (records, bytes) = (counted(*records, "record"), counted(*bytes, "byte"));
             format!("{head}: {records}, {bytes}")
         }
-        Ok(Done::Written) => format!("{head}: {}", written(step)),
+        Ok(Done::HostWritten) => format!("{head}: {}", written(step)),
         Err(refusal) => format!("{head}: {}", refused(*refusal)),
     }
 }
@@ -53,16 +58,17 @@ pub fn counted(number: u64, noun: &str) -> String {
     format!("{number} {noun}{plural}")
 }
 
-fn delivered(parts: &[Part]) -> String {
+/// All parts, each behind the word for one that was held or for one that was not.
+fn joined(parts: &[Part], words: [&str; 2]) -> String {
     if parts.is_empty() {
         return "nothing".to_string();
     }
-    let parts: Vec<String> = parts.iter().map(part).collect();
+    let parts: Vec<String> = parts.iter().map(|each| part(each, words)).collect();
     parts.join(", ")
 }
 
-fn part(part: &Part) -> String {
-    let kind = part.record.map_or("fresh", |_| "replayed");
+fn part(part: &Part, [held, other]: [&str; 2]) -> String {
+    let kind = part.record.map_or(other, |_| held);
     let (start, length) = (part.start, part.bytes.len());
     format!("{kind} {start}+{length} {}", digits(&part.bytes))
 }
@@ -77,12 +83,10 @@ fn held(records: &[Span]) -> String {
     format!("records{}", spans.collect::<String>())
 }
 
-/// The data of a write.
+/// The data of a host write.
 fn written(step: &Step) -> String {
     match step {
-        Step::HostWrite { data, .. } | Step::OwnWrite { data, .. } if !data.is_empty() => {
-            digits(data)
-        }
+        Step::HostWrite { data, .. } if !data.is_empty() => digits(data),
         _ => "nothing".to_string(),
     }
 }

@@ -31,8 +31,8 @@ fn parts_and_records_stand_in_ascending_order() {
         frame(3, 0, 8, 4, &[0x0a, 0xb0, 0xcc, 0]),
         frame(1, 5, 10, 1, &[]),
         frame(1, 5, 8, 1, &[]),
-        frame(4, 5, 8, 3, &[1, 2, 3]),
-        frame(4, 5, 8, 0, &[]),
+        frame(3, 0, 8, 3, &[1, 2, 3]),
+        frame(3, 0, 8, 0, &[]),
         frame(1, 5, 10, 0, &[]),
         frame(1, 5, 7, 5, &[]),
         frame(1, 5, 8, 2, &[]),
@@ -45,8 +45,8 @@ fn parts_and_records_stand_in_ascending_order() {
 3 the host writes 8+4: 0ab0cc00
 4 command 5 fetches 10+1: fresh 10+1 cc; records 10+1
 5 command 5 fetches 8+1: fresh 8+1 0a; records 8+1 10+1
-6 command 5 writes 8+3: 010203
-7 command 5 writes 8+0: nothing
+6 the host writes 8+3: 010203
+7 the host writes 8+0: nothing
 8 command 5 fetches 10+0: nothing; records 8+1 10+1
 9 command 5 fetches 7+5: fresh 7+1 00, replayed 8+1 0a, fresh 9+1 02, replayed 10+1 cc, fresh 11+1 00; records 7+5
 10 command 5 fetches 8+2: replayed 8+2 0a02; records 7+5
@@ -55,6 +55,38 @@ fn parts_and_records_stand_in_ascending_order() {
     let said = said(&journal);
     assert_eq!(said.out, expected);
     assert_eq!(said.errors, "explain: 11 frames, 11 ok, 0 refused\n");
+}
+
+#[test]
+fn an_own_write_has_parts_as_a_fetch_has() {
+    let journal = [
+        frame(0, 3, 0, 0, &[]),
+        frame(4, 3, 8, 0, &[]),
+        frame(1, 3, 16, 2, &[]),
+        frame(4, 3, 16, 4, b"abcd"),
+        frame(4, 3, 22, 1, b"e"),
+        frame(4, 3, 15, 8, b"12345678"),
+        frame(4, 3, 17, 2, b"yz"),
+        frame(4, 3, 9, 0, &[]),
+        frame(1, 3, 14, 5, &[]),
+        frame(4, 4, 14, 1, b"x"),
+        frame(2, 3, 0, 0, &[]),
+    ]
+    .concat();
+    let expected = "\
+1 command 3 begins
+2 command 3 writes 8+0: nothing; no records
+3 command 3 fetches 16+2: fresh 16+2 0000; records 16+2
+4 command 3 writes 16+4: over 16+2 6162, new 18+2 6364; records 16+4
+5 command 3 writes 22+1: new 22+1 65; records 16+4 22+1
+6 command 3 writes 15+8: new 15+1 31, over 16+4 32333435, new 20+2 3637, over 22+1 38; records 15+8
+7 command 3 writes 17+2: over 17+2 797a; records 15+8
+8 command 3 writes 9+0: nothing; records 15+8
+9 command 3 fetches 14+5: fresh 14+1 00, replayed 15+4 3132797a; records 14+9
+10 command 4 writes 14+1: refused (21): the command is not open
+11 command 3 ends: 1 record, 9 bytes
+";
+    assert_eq!(said(&journal).out, expected);
 }
 
 #[test]
@@ -84,12 +116,12 @@ fn a_fetch_that_touches_a_record_is_joined_with_it() {
 }
 
 #[test]
-fn parts_of_random_journals_are_fresh_and_replayed_by_turns() {
+fn parts_of_random_journals_were_held_and_were_not_by_turns() {
     let kinds = |line: &str| -> Vec<bool> {
         let parts = line.split([':', ',']);
         let kind = |part: &str| match part.split(' ').nth(1) {
-            Some("fresh") => Some(true),
-            Some("replayed") => Some(false),
+            Some("fresh" | "new") => Some(true),
+            Some("replayed" | "over") => Some(false),
             _ => None,
         };
         parts.filter_map(kind).collect()
@@ -229,6 +261,7 @@ fn expectations_hold_by_the_rule() {
         ("ok", false),
         ("ok 9", false),
         ("ok 1 9", false),
+        ("ok 4 2", false),
         ("ok 0 0 -", true),
         ("ok 2 1 0ab0cc", true),
         ("no 21", true),

@@ -75,7 +75,7 @@ fn a_program_that_says_nothing_fails_everywhere_and_every_form_is_reached() {
 fn forms_that_are_not_reached_fail() {
     let output = run(&["/bin/true", "--journals", "0"]);
     let text = String::from_utf8_lossy(&output.stdout);
-    assert!(text.contains("\nnever reached: \"+0: nothing; no records\\n\"\n"));
+    assert!(text.contains("\nnever reached: \" ends: 1 record, 1 byte\\n\"\n"));
 }
 
 #[test]

@@ -40,11 +40,11 @@ fn line(input: &mut Input) -> Line {
             command: command(input),
         },
         17..=18 => Call::Host {
-            span: span_of_data(input),
+            span: short(span(input)),
         },
         19..=20 => Call::Own {
             command: command(input),
-            span: span_of_data(input),
+            span: short(span(input)),
         },
         21..=22 => Call::Show {
             command: command(input),
@@ -70,6 +70,9 @@ fn map_line(input: &mut Input) -> Line {
         3..=4 => Call::MapBegin,
         5 if input.byte() % 8 == 0 => Call::MapFresh,
         5 => Call::MapEnd,
+        6..=8 => Call::MapOwn {
+            span: short(map_span(input)),
+        },
         _ => Call::MapFetch {
             span: map_span(input),
         },
@@ -96,13 +99,10 @@ fn map_span(input: &mut Input) -> Span {
     }
 }
 
-/// A span of which every byte is made.
-fn span_of_data(input: &mut Input) -> Span {
-    let Span { start, length } = span(input);
-    Span {
-        start,
-        length: length.min(MOST_DATA as u64),
-    }
+/// The span, with no more bytes than can be made for it.
+fn short(span: Span) -> Span {
+    let length = span.length.min(MOST_DATA as u64);
+    Span { length, ..span }
 }
 
 /// Bytes of the input, and some made ones.
@@ -221,9 +221,11 @@ mod tests {
         let bytes = [0, 0, 3, 4, 0, 3, 0, 64, 0, 9];
         let wanted = [begin, fetch].map(|call| Line::Call(call, vec![]));
         assert_eq!(lines(&bytes), wanted);
-        let fetch = Call::MapFetch { span };
-        let wanted = [Call::MapBegin, fetch, Call::MapEnd].map(|call| Line::Call(call, vec![]));
-        assert_eq!(lines(&[32, 3, 33, 6, 0, 64, 0, 9, 39, 5, 1]), wanted);
+        let (fetch, own) = (Call::MapFetch { span }, Call::MapOwn { span });
+        let calls = [Call::MapBegin, fetch, own, Call::MapEnd];
+        let wanted = calls.map(|call| Line::Call(call, vec![]));
+        let (first, last) = ([32, 3, 33, 9, 0, 64, 0, 9], [34, 6, 0, 64, 0, 9, 39, 5, 1]);
+        assert_eq!(lines(&[&first[..], &last].concat()), wanted);
     }
 
     #[test]

@@ -13,6 +13,9 @@ use crate::lent::{Room, ROOMS};
 /// The refusals that a journal can bring about with buffers of any length.
 const REFUSALS: [u8; 13] = [1, 2, 3, 4, 5, 7, 8, 9, 10, 21, 22, 23, 24];
 
+/// Those of them that an own write can get.
+const WRITE_REFUSALS: [u8; 6] = [7, 8, 9, 21, 23, 24];
+
 /// The sums of a run.
 #[derive(Default)]
 pub struct Sums {
@@ -52,18 +55,10 @@ impl Sums {
 
     /// What the random journals did not reach, in words.
     fn missing(&self) -> Vec<String> {
-        let letters = LETTERS
-            .iter()
-            .filter(|letter| self.tally.accepted(**letter) == 0);
-        let refusals = REFUSALS
-            .iter()
-            .filter(|number| self.tally.refused(**number) == 0);
+        let mut missing = self.tally.missing_of(&REFUSALS, &WRITE_REFUSALS);
         let rooms = ROOMS.iter().filter(|room| !self.rooms.contains(*room));
-        letters
-            .map(|letter| format!("an accepted {letter}"))
-            .chain(refusals.map(|number| format!("refusal {number}")))
-            .chain(rooms.map(|room| format!("an output with this room: {room:?}")))
-            .collect()
+        missing.extend(rooms.map(|room| format!("an output with this room: {room:?}")));
+        missing
     }
 
     /// Cases that differ, and what was not reached.
@@ -73,7 +68,8 @@ impl Sums {
 
     /// Cases that agree, and what was reached.
     pub fn passed(&self) -> u64 {
-        let to_reach = (LETTERS.len() + REFUSALS.len() + ROOMS.len()) as u64;
+        let refusals = REFUSALS.len() + WRITE_REFUSALS.len();
+        let to_reach = (LETTERS.len() + refusals + ROOMS.len()) as u64;
         self.cases + to_reach - self.failed()
     }
 }

@@ -1,161 +1,122 @@
--- The search decides: refused, everything is as it was; accepted, the span is held and delivered, and then the words are changed.
-use Prim.Native.Nat.{ℕ}
+-- Refused, everything is as it was; held, the span is delivered from the store.
+use Prim.Native.Nat.{ℕ, _+_, _≤_}
 use native.Mathlib.Omega.{arith}
-use mathlib.Core.Path.{refl, subst}
+use mathlib.Core.Path.{subst}
+use mathlib.Core.List.{List}
 use denote.Ref.{now}
 use borrow.Author.Needs.{needs}
-use Rattle.state.specs.declared.Meeting.{Meeting}
-use Rattle.state.specs.Words.{commandIn}
-use Rattle.admission.specs.declared.plan.Finding.{Finding}
-use Rattle.admission.specs.Plan.{Plans}
-use Rattle.words.proofs.StateWords.{lent}
-use Rattle.fetch.proofs.Lending.{Lent, SpanRoom, admitted, bytes-refused, records-refused, room}
+use lib.ListN.{length}
+use Rattle.state.specs.Limits.{heldLimit}
+use Rattle.state.specs.Words.{stateOf}
+use Rattle.admission.proofs.Admitted.{Admits, admits}
+use Rattle.holding.specs.declared.Holding.{Holding}
+use Rattle.holding.specs.declared.Holding.the-variants.{Span}
+use Rattle.holding.specs.Holding.{Holds}
+use Rattle.fetch.proofs.Fetching.{may-hold, bytes-refused, records-refused, placed, at-most, span-fetched}
 use Rattle.fetch.proofs.fetch_span.Statement.{statement}
 use Rattle.fetch.proofs.fetch_span.Tie as tie
 
 -- what was admitted
-given : (s : tie.Start) → Lent (now (s .args .state)) (now (s .args .store)) (now (s .args .window)) (now (s .args .destination)) (s .args .command) (s .args .address) (s .args .size)
-given s = admitted (now (s .args .state)) (now (s .args .store)) (now (s .args .window)) (now (s .args .destination)) _ _ _ (s .pre .0) (s .pre .1) (s .pre .2)
+module _ (s : tie.Start) where
+  A : Admits (stateOf (now (s .args .state))) (length (now (s .args .store))) (length (now (s .args .window))) (length (now (s .args .destination)))
+      (s .args .command) (s .args .address) (s .args .size)
+  A = admits _ (length (now (s .args .store))) (length (now (s .args .window))) (length (now (s .args .destination))) _ _ (s .args .size) (s .pre .1)
 
-abbrev entered : tie.After-slice-known3 → tie.Start
-entered c = c .before .before .before .before
+hold-span-requires : tie.Need-hold-span-requires
+hold-span-requires c κs =
+    let s = c .before .before .before .before .before .before in
+    let a = s .args in
+    may-hold (now (a .state)) (now (a .store)) (now (a .window)) (now (a .destination)) _ _ _ (s .pre .1) (s .pre .0) (s .pre .2)
 
-mul-low : tie.Need-mul-low
-mul-low c = omega (arith, given (entered c) .command)
-
-add-high : tie.Need-add-high
-add-high c = omega (arith, given (entered c) .command)
-
-mul-planned : tie.Need-mul-planned
-mul-planned c = omega (arith, given (entered c) .command)
-
-part-planned-end : tie.Need-part-planned-end
-part-planned-end c = omega (arith, given (entered (c .before)) .command)
-
-planned-requires : tie.Need-planned-requires
-planned-requires c κs = let g = given (entered (c .before .before)) in (g .sized, g .holds, g .some, g .short, g .inside)
-
--- what the search gave
-module _ (c : tie.After-planned) where
-  abbrev start : tie.Start
-  start = entered (c .before .before .before)
-
-  abbrev Found : Finding → Type 0
-  Found = Plans (commandIn (lent (now (start .args .state)) (start .args .command))) (start .args .address) (start .args .size)
-
--- there is room
-module _ (c : tie.After-plan) where
+-- what came of holding the span
+module _ (c : tie.After-hold-span) where
   abbrev s : tie.Start
-  s = start (c .before .before)
+  s = c .before .before .before .before .before .before .before
 
-  abbrev m : Meeting
-  m = c .plan .given .0 .0
+  abbrev words : List ℕ
+  words = now (s .args .state)
 
-  abbrev fresh : ℕ
-  fresh = c .plan .given .0 .1 .0
+  abbrev store : List ℕ
+  store = now (s .args .store)
 
-  abbrev place : ℕ
-  place = c .plan .given .0 .1 .1 .0
+  abbrev window : List ℕ
+  window = now (s .args .window)
 
-  abbrev behind : ℕ
-  behind = c .plan .given .0 .1 .1 .1 .0
+  abbrev dest : List ℕ
+  dest = now (s .args .destination)
 
-  R : SpanRoom (now (s .args .state)) (now (s .args .store)) (now (s .args .window)) (now (s .args .destination)) (s .args .command) (s .args .address) (s .args .size) m fresh place behind
-  R =
-      room (now (s .args .state)) (now (s .args .store)) (now (s .args .window)) (now (s .args .destination)) _ _ _ (s .pre .0) (s .pre .1) (s .pre .2) m fresh place behind
-      (subst (Found (c .before .before)) (c .plan .given .1) (c .before .before .planned .ensures))
+  abbrev words′ : List ℕ
+  words′ = c .hold-span .last .0
 
-mul-hold : tie.Need-mul-hold
-mul-hold c = omega (arith, given (s (c .before .before)) .command)
+  abbrev store′ : List ℕ
+  store′ = c .hold-span .last .1 .0
 
-part-hold-end : tie.Need-part-hold-end
-part-hold-end c = omega (arith, given (s (c .before .before .before)) .command)
-
-hold-requires : tie.Need-hold-requires
-hold-requires c κs =
-    let k = c .before .before .before .before in
-    let g = given (s k) in
-    (g .command, g .size, g .sized, R k .fits, R k .behind)
-
--- after the span is held
-abbrev planned-at : tie.After-hold → tie.After-plan
-planned-at c = c .before .before .before .before .before
-
-deliver-requires : tie.Need-deliver-requires
-deliver-requires c κs =
-    let k = planned-at (c .before .before .before .before) in
-    let g = given (s k) in
-    (g .command, omega arith, R k .placed, g .takes)
-
--- and delivered
-abbrev held-at : tie.After-slice-known5 → tie.After-hold
-held-at c = c .before .before .before .before .before .before .before
-
-mul-splice : tie.Need-mul-splice
-mul-splice c = omega (arith, given (s (planned-at (held-at c))) .command)
-
-part-splice-end : tie.Need-part-splice-end
-part-splice-end c = omega (arith, given (s (planned-at (held-at c))) .command)
-
-splice-requires : tie.Need-splice-requires
-splice-requires c κs =
-    let k = planned-at (held-at (c .before)) in
-    let r = R k in
-    (given (s k) .sized, r .opened, r .order, r .most, r .few)
-
-sub-replayed : tie.Need-sub-replayed
-sub-replayed c = R (planned-at (held-at (c .before .before .before .before))) .fresh
+  abbrev Came : Holding → Type 0
+  Came r = Holds words store (s .args .command) (s .args .address) (s .args .size) 0 window r words′ store′
 
 returns : tie.Need-returns
 returns c =
-    let h = c .before .before in
-    let b = start h in
-    bytes-refused (now (b .args .state)) (now (b .args .store)) (now (b .args .window)) (now (b .args .destination)) _ _ _ (b .pre .0) (b .pre .1) (b .pre .2)
-    (subst (Found h) (c .enum-told .given .1) (h .planned .ensures))
+    let k = c .before .before .before .before .before .before in
+    bytes-refused (words k) (store k) (window k) (dest k) _ _ _ (s k .pre .1) (s k .pre .0) (s k .pre .2) (words′ k) (store′ k)
+    (subst (Came k) (c .enum-told .given .1) (k .hold-span .ensures))
 
 returns-2 : tie.Need-returns-2
 returns-2 c =
-    let h = c .before .before in
-    let b = start h in
-    records-refused (now (b .args .state)) (now (b .args .store)) (now (b .args .window)) (now (b .args .destination)) _ _ _ (b .pre .0) (b .pre .1) (b .pre .2)
-    (subst (Found h) (c .enum-told2 .given .1) (h .planned .ensures))
+    let k = c .before .before .before .before .before .before in
+    records-refused (words k) (store k) (window k) (dest k) _ _ _ (s k .pre .1) (s k .pre .0) (s k .pre .2) (words′ k) (store′ k)
+    (subst (Came k) (c .enum-told2 .given .1) (k .hold-span .ensures))
+
+-- it is held
+module _ (c : tie.After-holding) where
+  abbrev k : tie.After-hold-span
+  k = c .before .before .before .before .before .before
+
+  abbrev new : ℕ
+  new = c .holding .given .0 .0
+
+  abbrev place : ℕ
+  place = c .holding .given .0 .1 .0
+
+  held : Came k (Span new place)
+  held = subst (Came k) (c .holding .given .1) (k .hold-span .ensures)
+
+  fits : place + s k .args .size ≤ heldLimit
+  fits = placed (words k) (store k) (window k) (dest k) _ _ _ (s k .pre .1) (s k .pre .0) (s k .pre .2) (words′ k) (store′ k) new place held
+
+  few : new ≤ s k .args .size
+  few = at-most (words k) (store k) (window k) (dest k) _ _ _ (s k .pre .1) (s k .pre .0) (s k .pre .2) (words′ k) (store′ k) new place held
+
+deliver-requires : tie.Need-deliver-requires
+deliver-requires c κs =
+    let h = c .before .before .before in
+    let a = A (s (k h)) in
+    (a .command, omega (arith, a .size), fits h, a .takes)
+
+-- and delivered
+abbrev held-at : tie.After-slice-known6 → tie.After-holding
+held-at c = c .before .before .before .before .before .before
 
 returns-3 : tie.Need-returns-3
 returns-3 c =
-    let put = c .before .before in
-    let delivered = put .before .before in
-    let held = held-at delivered in
-    R (planned-at held) .done _ (put .splice .last .0) (held .hold .last .0) _ refl (put .splice .ensures .1) (put .splice .ensures .0)
-    (held .hold .ensures) (delivered .before .before .deliver .ensures)
+    let h = held-at c in
+    let l = k h in
+    span-fetched (words l) (store l) (window l) (dest l) _ _ _ (s l .pre .1) (s l .pre .0) (s l .pre .2) (words′ l) (store′ l) (new h) (place h) (held h) _
+    (c .before .before .deliver .ensures)
 
 pub fetch-span-spec : {M : Type 1} → statement M
 fetch-span-spec =
     tie.close
     (tie.spec
-    mul-low
-    add-high
-    mul-planned
-    (λ c. search needs)
-    (λ c. search needs)
-    part-planned-end
-    planned-requires
+    hold-span-requires
     (λ c. search needs)
     (λ c. search needs)
     (λ c. search needs)
-    mul-hold
-    (λ c. search needs)
-    (λ c. search needs)
-    part-hold-end
-    hold-requires
     deliver-requires
-    mul-splice
+    (λ c. few (held-at c))
     (λ c. search needs)
-    (λ c. search needs)
-    part-splice-end
-    splice-requires
-    sub-replayed
     (λ c. search needs)
     returns
+    (λ c. search needs)
     (λ c. search needs)
     returns-2
     (λ c. search needs)

@@ -11,7 +11,7 @@ use Rattle.state.proofs.Verdict.{says-of}
 use Rattle.cache.specs.Fetch.{admitChecks}
 use Rattle.state.specs.Words.{stateOf}
 use Rattle.admission.specs.Plan.{admissionReply}
-use Rattle.fetch.proofs.Lending.{barred, nothing}
+use Rattle.fetch.proofs.Fetching.{barred, nothing}
 use Rattle.fetch.proofs.fetch_words.Statement.{statement}
 use Rattle.fetch.proofs.fetch_words.Tie as tie
 
@@ -27,7 +27,10 @@ module _ (c : tie.After-enum-told) where
   abbrev e : tie.Start
   e = c .before .before .before .before .before .before .before .before
 
-  admitted : accepted (verdict (admitChecks (stateOf (now (e .args .state))) (length (now (e .args .store))) (length (now (e .args .window))) (length (now (e .args .destination))) (e .args .command) (e .args .address) (e .args .size)) (replied [])) ≡ true
+  admitted :
+      accepted (verdict (admitChecks (stateOf (now (e .args .state))) (length (now (e .args .store))) (length (now (e .args .window)))
+      (length (now (e .args .destination))) (e .args .command) (e .args .address) (e .args .size)) (replied []))
+      ≡ true
   unfolding accepted
   admitted = ap accepted (says-of admissionReply (c .before .before .admit .ensures) (c .enum-told .given .1))
 

@@ -63,13 +63,20 @@ returns-4 c =
     rw (step .step4 .given .1)
     (makes-undelivered d (hostWrite _ _ _) refl (c .written .ensures ∙ call .0) (equal-devices refl refl (call .1) refl))
 
+-- an own write that was made
+module _ (c : tie.After-own-written) where
+  abbrev wrote : tie.After-own-write
+  wrote = c .before .before .before .before .before
+
+  abbrev asked : tie.After-step5
+  asked = wrote .before .before .before .before .before
+
 returns-5 : tie.Need-returns-5
 returns-5 c =
-    let step = c .before .before .before .before .before .before .before in
-    let d = device (step .before .before .before .before .before .before) in
-    let call = c .before .before .before .own-write .ensures in
-    rw (step .step5 .given .1)
-    (makes-undelivered d (ownWrite _ _ _ _) refl (c .written2 .ensures ∙ call .0) (equal-devices refl refl (call .1) refl))
+    let d = device (asked c .before .before .before .before .before .before) in
+    let call = wrote c .own-write .ensures in
+    rw (asked c .step5 .given .1)
+    (makes-undelivered d (ownWrite _ _ _ _) refl (c .own-written .ensures ∙ call .answer) (equal-devices (call .state) (call .stored) (call .host) refl))
 
 pub make-spec : {M : Type 1} → statement M
 make-spec =
@@ -101,5 +108,6 @@ make-spec =
     returns-3
     (λ c. search needs)
     returns-4
+    (λ c. search needs)
     (λ c. search needs)
     returns-5)

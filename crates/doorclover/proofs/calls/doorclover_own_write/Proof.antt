@@ -1,5 +1,5 @@
--- The call's own equation, with its answer as a reply. State and store are not written.
-use mathlib.Core.Path.{refl, ap, _∙_}
+-- The call's own equation, with its answer as a reply.
+use mathlib.Core.Path.{ap, _∙_}
 use borrow.Author.Needs.{needs}
 use Rattle.replies.specs.Replies.{writtenOf}
 use Rattle.doorclover.proofs.calls.doorclover_own_write.Statement.{statement}
@@ -7,8 +7,8 @@ use Rattle.doorclover.proofs.calls.doorclover_own_write.Tie as tie
 
 returns : tie.Need-returns
 returns c =
-    let e = c .before .before .before .own-write .ensures in
-    record { answer = c .write-reply .ensures ∙ ap writtenOf (e .0); state = refl; stored = refl; host = e .1 }
+    let e = c .before .before .before .before .before .own-write .ensures in
+    record { answer = c .own-write-reply .ensures ∙ ap writtenOf (e .answer); state = e .state; kept = e .kept; stored = e .stored; host = e .host }
 
 pub doorclover-own-write-spec : {M : Type 1} → statement M
 doorclover-own-write-spec =
@@ -16,5 +16,6 @@ doorclover-own-write-spec =
     (tie.spec
     (λ c κs. search needs)
     (λ c κs. search needs)
+    (λ c. search needs)
     (λ c. search needs)
     returns)

@@ -8,10 +8,10 @@ use Rattle.explain.proofs.parts.put_all.Statement.{statement}
 use Rattle.explain.proofs.parts.put_all.Tie as tie
 
 abbrev Inv-loop : tie.InvT-loop
-Inv-loop line₀ at before command address bytes next₀ done₀ i₀ line next done i = (i ≤ 64) × (length line ≡ length line₀)
+Inv-loop line₀ at before command address bytes unheld held next₀ done₀ i₀ line next done i = (i ≤ 64) × (length line ≡ length line₀)
 
 abbrev μ-loop : tie.MeasureT-loop
-μ-loop line₀ at before command address bytes next₀ done₀ i₀ line next done i = 64 - i
+μ-loop line₀ at before command address bytes unheld held next₀ done₀ i₀ line next done i = 64 - i
 
 pub put-all-spec : {M : Type 1} → statement M
 put-all-spec =

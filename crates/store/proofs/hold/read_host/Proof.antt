@@ -16,7 +16,7 @@ use Rattle.store.proofs.hold.read_host.Tie as tie
 module _ (c : tie.After-copy-at-arg) where
   inside : (c .before .before .before .before .args .base ≤ c .before .before .before .before .args .low)
       × (c .before .before .before .before .args .high
-      ≤ c .before .before .before .before .args .base + length (now (c .before .before .before .before .args .window)))
+      ≤ c .before .before .before .before .args .base + length (now (c .before .before .before .before .args .source)))
   inside = c .before .before .before .before .pre (omega arith)
 
 returns : tie.Need-returns
@@ -27,7 +27,7 @@ returns c =
     let width : args .high - args .base - (args .low - args .base) ≡ args .high - args .low = omega arith in
     copied .copy-at .ensures
     ∙ ap (λ (n : ℕ). overwrite (now (args .part)) (args .at)
-    (take (length (now (args .part)) - args .at) (take n (drop (args .low - args .base) (now (args .window)))))) width
+    (take (length (now (args .part)) - args .at) (take n (drop (args .low - args .base) (now (args .source)))))) width
 
 no-bytes : (bytes window : List ℕ) (at room from low high : ℕ) → high ≤ low → bytes ≡ overwrite bytes at (take room (take (high - low) (drop from window)))
 no-bytes bytes window at room from low high h =
@@ -37,7 +37,7 @@ no-bytes bytes window at room from low high h =
 returns-2 : tie.Need-returns-2
 returns-2 c =
     let args = c .before .before .before .args in
-    no-bytes (now (args .part)) (now (args .window)) (args .at) (length (now (args .part)) - args .at) (args .low - args .base)
+    no-bytes (now (args .part)) (now (args .source)) (args .at) (length (now (args .part)) - args .at) (args .low - args .base)
     (args .low) (args .high) (omega arith)
 
 pub read-host-spec : {M : Type 1} → statement M
