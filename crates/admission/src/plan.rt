@@ -31,18 +31,18 @@ pub fn planned(words: &[u16], address: usize, size: usize) -> Finding
     ensures { λ r. ⌜ Plans (commandIn (now (words .entry))) address size r ⌝ }
 {
     let m = meeting(words, address, address + size);
-    let wide = octets::minus(m.high, m.low);
-    let fresh = octets::minus(wide, m.held);
+    let wide = numbers::minus(m.high, m.low);
+    let fresh = numbers::minus(wide, m.held);
     let behind = held_from(words, m.last);
     if CacheState::HELD < m.below + m.held + behind + fresh {
         return Finding::Bytes;
     }
     let n = used(words);
-    if CacheState::RECORDS < m.first + 1 + octets::minus(n, m.last) {
+    if CacheState::RECORDS < m.first + 1 + numbers::minus(n, m.last) {
         return Finding::Records;
     }
-    let inside = octets::minus(address, m.low);
-    let place = m.below + octets::lesser(inside, CacheState::WINDOW);
+    let inside = numbers::minus(address, m.low);
+    let place = m.below + numbers::lesser(inside, CacheState::WINDOW);
     Finding::Span {
         m,
         fresh,

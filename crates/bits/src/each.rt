@@ -6,7 +6,7 @@ ghost use lib.Dec.{ltb, eqb};
 ghost use Rattle.octets.specs.Lists.{count};
 ghost use Rattle.state.specs.Records.{span, inSpan};
 ghost use Rattle.bits.specs.Bits.{wordLimit, mapLimit, bit, wordOf, startsAt};
-use octets::minus;
+use numbers::minus;
 
 // How many bits of a word are set.
 pub fn tally(w: u64) -> usize

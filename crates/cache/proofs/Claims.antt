@@ -1,31 +1,30 @@
--- Show gives every record of an open command and 25 behind the last; begin and end leave a part of zeros; an own write's bytes are held and stand
--- in the window, and it is judged as a fetch.
+-- Show gives every record of an open command and 25 behind the last; begin and end leave no record and a part of zeros; an own write's bytes
+-- are held and stand in the window, and it is judged as a fetch.
 use Prim.Native.Nat.{ℕ, suc, _+_, _≤_, _<_}
 use native.Mathlib.Omega.{arith}
 use mathlib.Core.Path.{_≡_, refl, ap, ap₂, sym, _∙_}
-use mathlib.Core.List.{List, [], _∷_, _++_, map, append-assoc}
+use mathlib.Core.List.{List, [], _∷_, map}
 use mathlib.Core.Bool.{true, false}
-use lib.ListN.{length, take, drop, getD, replicate, length-replicate}
-use lib.Seq.{length-take-le, take-at, drop-at}
+use lib.ListN.{length, getD, replicate, length-replicate}
 use borrow.Author.Tests.{leb-true, leb-false, lt-leb}
-use Rattle.octets.specs.Lists.{overwrite, part}
+use Rattle.octets.specs.Lists.{part}
 use Rattle.octets.proofs.Overwrite.{overwrite-part}
 use Rattle.state.specs.declared.Record.{Record}
 use Rattle.state.specs.Limits.{commandLimit, heldLimit}
 use Rattle.state.specs.Records.{span}
-use Rattle.state.specs.State.{State, recordsOf, noRecord, isOpen, holds}
+use Rattle.state.specs.State.{State, empty, recordsOf, noRecord, isOpen, holds}
 use Rattle.state.specs.Verdict.{Reply, refused, accepted, Check, verdict}
-use Rattle.state.proofs.Commands.{kept}
+use Rattle.state.proofs.Commands.{command-same, kept, eight}
 use Rattle.state.proofs.Laws.{total-joined}
 use Rattle.state.proofs.Verdict.{accepted-alike, refused-alike}
 use Rattle.store.specs.Store.{partStart, zeroed}
 use Rattle.store.proofs.Spans.{read-back, written-span}
-use Rattle.cache.specs.Begin.{beginStore}
-use Rattle.cache.specs.End.{endStore}
+use Rattle.cache.specs.Begin.{beginState, beginStore}
+use Rattle.cache.specs.End.{endState, endStore}
 use Rattle.cache.specs.Fetch.{fetchChecks, fetchSays, fetchState}
 use Rattle.cache.specs.OwnWrite.{ownSays, ownState, ownStore, ownWindow}
 use Rattle.cache.specs.Show.{pastLast, showSays}
-use Rattle.cache.specs.Claims.{recordReply, ShowsAll, PartsZeroed, WrittenHeld, WindowWritten, OwnAsFetched}
+use Rattle.cache.specs.Claims.{recordReply, ShowsAll, CommandsEmptied, PartsZeroed, WrittenHeld, WindowWritten, OwnAsFetched}
 use Rattle.cache.proofs.Accepted.{Ready, begun, ended, own-judged, own-fetched}
 use Rattle.cache.proofs.Tests.{never-true, never-false}
 
@@ -58,12 +57,15 @@ shows-all s c whole low opened = record {
   behind = none-behind s c whole low opened;
 }
 
--- what was written stands there
-written : (buffer bytes : List ℕ) (at n : ℕ) → at ≤ length buffer → length bytes ≡ n → part (overwrite buffer at bytes) at n ≡ bytes
-written buffer bytes at n inside size =
-    let rest = drop (at + length bytes) buffer in
-    let front = length-take-le at buffer inside in
-    rw (append-assoc (take at buffer) bytes rest, drop-at (take at buffer) (bytes ++ rest) at front) (take-at bytes rest n size)
+pub commands-emptied : CommandsEmptied
+unfolding beginState endState
+commands-emptied s storeLen c shape = record {
+  begun = λ e. rw e (command-same s c (empty true) (low (begun s storeLen c e)));
+  ended = λ e. rw e (command-same s c (empty false) (low (ended s storeLen c e)));
+}
+  where
+    low : Ready s storeLen c → c < length (s .commands)
+    low r = omega (arith, r .command, eight s shape)
 
 pub parts-zeroed : PartsZeroed
 unfolding beginStore endStore
@@ -74,8 +76,9 @@ parts-zeroed s store c = record {
   where
     zeros : Ready s (length store) c → part (zeroed store c) (partStart c) heldLimit ≡ replicate heldLimit 0
     zeros r =
+        let bytes : List ℕ = replicate heldLimit 0 in
         let size = length-replicate {A = ℕ} heldLimit 0 in
-        written store (replicate heldLimit 0) (partStart c) heldLimit (omega (arith, r .command, r .size)) size
+        ap (part (zeroed store c) (partStart c)) (sym size) ∙ overwrite-part store bytes (partStart c) (omega (arith, r .command, r .size, size))
 
 -- An own write's bytes are those of its span, and a span stands side by side among the packed bytes.
 pub written-held : WrittenHeld

@@ -1,6 +1,6 @@
--- The claims about single calls: what show gives of a command, what begin, end and own write leave of its part of the store, that an own write's
--- bytes stand in the window and that it is judged as a fetch, and that a refused call changes nothing (01, the agreed scope, "The calls", and
--- request F-3 of 02, the agreed changes; docs/RULES.md has their rules).
+-- The claims about single calls: what show gives of a command, what begin and end leave of its records, what they and own write leave of its
+-- part of the store, that an own write's bytes stand in the window and that it is judged as a fetch, and that a refused call changes nothing
+-- (01, the agreed scope, "The calls", and request F-3 of 02, the agreed changes; docs/RULES.md has their rules).
 use Prim.Native.Nat.{ℕ, _+_, _≤_, _<_}
 use mathlib.Core.Path.{_≡_}
 use mathlib.Core.List.{List, [], _∷_, map}
@@ -10,11 +10,11 @@ use Rattle.octets.specs.Lists.{part}
 use Rattle.state.specs.declared.Record.{Record}
 use Rattle.state.specs.Limits.{commandLimit, heldLimit}
 use Rattle.state.specs.Records.{span, place, joined}
-use Rattle.state.specs.State.{State, recordsOf, isOpen, holds}
+use Rattle.state.specs.State.{State, empty, commandOf, recordsOf, isOpen, holds, hasShape}
 use Rattle.state.specs.Verdict.{Reply, refused, replied, accepted}
 use Rattle.store.specs.Store.{partStart}
-use Rattle.cache.specs.Begin.{beginSays, beginStore}
-use Rattle.cache.specs.End.{endSays, endStore}
+use Rattle.cache.specs.Begin.{beginSays, beginState, beginStore}
+use Rattle.cache.specs.End.{endSays, endState, endStore}
 use Rattle.cache.specs.OwnWrite.{ownSays, ownStore, ownWindow}
 use Rattle.cache.specs.Show.{showSays}
 use Rattle.cache.specs.Runs.{Call, fetch, ownWrite, Machine, says, stateAfter, after, destGiven, destAfter, windowGiven, windowAfter}
@@ -31,6 +31,15 @@ pub record Shown (s : State) (c : ℕ) : Type 0 where
 -- So it is of every open command of every state that holds together.
 abbrev pub ShowsAll : Type 0
 ShowsAll = (s : State) (c : ℕ) → holds s ≡ true → c < commandLimit → isOpen s c ≡ true → Shown s c
+
+-- An accepted begin opens its command and an accepted end closes it, and after either the command has no record.
+pub record Emptied (s : State) (storeLen c : ℕ) : Type 0 where
+  pub begun : accepted (beginSays s storeLen c) ≡ true → commandOf (beginState s storeLen c) c ≡ empty true
+  pub ended : accepted (endSays s storeLen c) ≡ true → commandOf (endState s storeLen c) c ≡ empty false
+
+-- So it is of every state of 8 commands with 64 entries each, which is what any lent words stand for.
+abbrev pub CommandsEmptied : Type 0
+CommandsEmptied = (s : State) (storeLen c : ℕ) → hasShape s ≡ true → Emptied s storeLen c
 
 -- Every byte of a command's part of the store is zero after an accepted begin of it, and after an accepted end.
 pub record Zeroed (s : State) (store : List ℕ) (c : ℕ) : Type 0 where

@@ -5,11 +5,8 @@ use mathlib.Core.List.{List, [], _∷_}
 use mathlib.Core.Bool.{cond}
 use lib.ListN.{length}
 use Rattle.octets.specs.Lists.{overwrite}
-use Rattle.state.specs.Refusals.{number}
-use Rattle.state.specs.Verdict.{Reply, refused, replied, accepted, Check, verdict}
+use Rattle.state.specs.Verdict.{Reply, replied, accepted, Check, verdict}
 use Rattle.state.specs.Checks.{lengthTooLong, windowTooLong, outsideWindow}
-use Rattle.cache.specs.declared.host_write.WriteAnswer.{WriteAnswer}
-use Rattle.cache.specs.declared.host_write.WriteAnswer.the-variants.{Done, Refused}
 
 -- n is how many bytes are given
 module _ (windowLen a n : ℕ) where
@@ -22,8 +19,3 @@ module _ (windowLen a n : ℕ) where
 
 unfoldable pub hostWindow : (window : List ℕ) (a : ℕ) (bytes : List ℕ) → List ℕ
 hostWindow window a bytes = cond (accepted (hostSays (length window) a (length bytes))) (overwrite window a bytes) window
-
--- what each answer of the code stands for
-abbrev pub writeReply : WriteAnswer → Reply
-writeReply (Done n) = replied (n ∷ [])
-writeReply (Refused r) = refused (number r)

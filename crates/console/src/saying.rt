@@ -5,7 +5,7 @@ ghost use lib.ListN.{length};
 ghost use Rattle.io.specs.Counts.{Counts};
 use libc::STDERR_FILENO;
 use libc::STDOUT_FILENO;
-use octets::lesser;
+use numbers::lesser;
 use octets::put;
 
 // Room for a message that quotes a text.

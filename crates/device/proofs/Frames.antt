@@ -14,7 +14,7 @@ use Rattle.kinds.specs.Table.{kindOf}
 use Rattle.frames.specs.Read.{stepNumbers, readSays, dataOf}
 use Rattle.cache.specs.Runs.{Call, says, delivers}
 use Rattle.log.specs.declared.line.Answer.the-variants.{Refused}
-use Rattle.device.specs.declared.step.Made.{Made}
+use Rattle.device.specs.declared.Made.{Made}
 use Rattle.device.specs.Step.{Device, deviceOf, callOf, deviceAfter, Makes}
 use Rattle.device.specs.Frame.{stepOf, isReadable, takenUp, stepRead, frameCall, frameSays, frameLeaves, frameDelivers, Carries}
 

@@ -14,7 +14,7 @@ use Rattle.kinds.specs.Table.{kindOf}
 use Rattle.frames.specs.Read.{readSays, dataOf}
 use Rattle.cache.specs.Runs.{Call, says, delivers}
 use Rattle.log.specs.Line.{answerReply}
-use Rattle.device.specs.declared.frame.Carried.{Carried}
+use Rattle.device.specs.declared.Carried.{Carried}
 use Rattle.device.specs.Step.{Device, deviceOf, callOf, deviceAfter}
 
 -- the step of these numbers: kind, command, address, length

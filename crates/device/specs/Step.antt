@@ -10,7 +10,7 @@ use Rattle.frames.specs.declared.Step.{Step}
 use Rattle.frames.specs.declared.Step.the-variants.{Begin, Fetch, End, HostWrite, OwnWrite}
 use Rattle.cache.specs.Runs.{Call, begin, fetch, end, hostWrite, ownWrite, show, Machine, says, after, destAfter, windowAfter, delivers}
 use Rattle.log.specs.Line.{answerReply}
-use Rattle.device.specs.declared.step.Made.{Made}
+use Rattle.device.specs.declared.Made.{Made}
 
 -- what a run hands on from step to step: state and store, the window, and the destination
 pub record Device : Type 0 where

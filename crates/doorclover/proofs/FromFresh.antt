@@ -5,7 +5,7 @@ use mathlib.Core.List.{List}
 use mathlib.Core.Bool.{Bool, cond}
 use Rattle.state.specs.State.{freshState}
 use Rattle.state.specs.Words.{stateOf}
-use Rattle.journal.specs.declared.run.Replayed.{Replayed}
+use Rattle.journal.specs.declared.Replayed.{Replayed}
 use Rattle.device.specs.Step.{Device, deviceOf}
 use Rattle.journal.specs.Run.{Replays, freshDevice}
 use Rattle.doorclover.specs.Journal.{Replays as ReplaysFresh}

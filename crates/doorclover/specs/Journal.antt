@@ -7,7 +7,7 @@ use Rattle.octets.specs.Lists.{count}
 use Rattle.octets.specs.Text.{Puts}
 use Rattle.device.specs.Step.{Device}
 use Rattle.journal.specs.Run.{Entry, entries, journalLeaves, freshDevice, logFrom, wasCarried, wasRefused, endsEarly}
-use Rattle.doorclover.specs.declared.replay.Replayed.{Replayed}
+use Rattle.doorclover.specs.declared.run.Replayed.{Replayed}
 
 module _ (input store window dest : List ℕ) where
   abbrev pub told : List Entry

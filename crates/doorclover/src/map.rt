@@ -2,7 +2,7 @@
 ghost use mathlib.Core.Path.{_≡_};
 ghost use Rattle.bytemap.specs.Map.{mapOf, fresh};
 ghost use Rattle.doorclover.specs.Map.{MapBegins, MapFetches, MapEnds, MapOwnWrites};
-use bytemap::ByteMap;
+use mapcalls::ByteMap;
 use replies::Begun;
 use replies::Ended;
 use replies::Fetched;
@@ -34,7 +34,7 @@ pub extern "C" fn doorclover_map_begin(
 ) -> Begun
     ensures { λ r. ⌜ MapBegins (mapOf (now (flag .entry)) (now (words .entry)) (now (values .entry))) r (mapOf (now (flag .exit)) (now (words .exit)) (now (values .exit))) ⌝ }
 {
-    begin_reply(bytemap::begin::begin(flag, words, values))
+    begin_reply(mapcalls::begin::begin(flag, words, values))
 }
 
 #[no_mangle]
@@ -60,7 +60,7 @@ pub extern "C" fn doorclover_map_end(
 ) -> Ended
     ensures { λ r. ⌜ MapEnds (mapOf (now (flag .entry)) (now (words .entry)) (now (values .entry))) r (mapOf (now (flag .exit)) (now (words .exit)) (now (values .exit))) ⌝ }
 {
-    end_reply(bytemap::end::end(flag, words, values))
+    end_reply(mapcalls::end::end(flag, words, values))
 }
 
 #[no_mangle]

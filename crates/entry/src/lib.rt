@@ -1,11 +1,7 @@
 // An entry of the log: one frame is carried out, and its line is made.
-ghost use mathlib.Core.Path.{_≡_};
-ghost use Rattle.state.specs.Verdict.{accepted};
-ghost use Rattle.log.specs.Line.{answerReply};
 ghost use Rattle.device.specs.Step.{deviceOf};
 ghost use Rattle.entry.specs.Logs.{Logs};
-use device::carry_out;
-use log::Answer;
+use execution::carry_out;
 use state::CacheState;
 
 // How many bytes the frame took up (none if it is unreadable), whether it was accepted, and the place behind its line.
@@ -13,17 +9,6 @@ pub struct Logged {
     pub taken: usize,
     pub accepted: bool,
     pub next: usize,
-}
-
-fn accepted(answer: Answer) -> bool
-    ensures { λ r. ⌜ r ≡ accepted (answerReply answer) ⌝ }
-{
-    match answer {
-        Answer::Done => true,
-        Answer::Count(_) => true,
-        Answer::Counts(_, _) => true,
-        Answer::Refused(_) => false,
-    }
 }
 
 // The line is put into the output from `at` on, as far as it fits.
@@ -52,7 +37,7 @@ pub fn log_frame(
     );
     Logged {
         taken: carried.taken,
-        accepted: accepted(answer),
+        accepted: log::is_accepted(answer),
         next,
     }
 }

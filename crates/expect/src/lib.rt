@@ -1,5 +1,5 @@
 // What is expected of a step, and whether an answer meets it.
-use octets::lesser;
+use numbers::lesser;
 use scan::Stop;
 use scan::has_word;
 use scan::until;

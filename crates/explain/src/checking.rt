@@ -2,7 +2,7 @@
 ghost use Prim.Native.Nat.{_≤_};
 ghost use lib.ListN.{length};
 use crate::unit::put_trimmed;
-use octets::lesser;
+use numbers::lesser;
 use octets::put;
 use scan::Stop;
 

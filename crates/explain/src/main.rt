@@ -1,17 +1,14 @@
 // Carries out frames, or steps as lines, and says of each in words what it did. Holds what the lines expect against what came.
 use console::Asked;
-use octets::minus;
-use octets::one_if;
+use numbers::minus;
+use numbers::one_if;
 use octets::put;
 use run::Tally;
 use script::Judgement;
 
 mod checking;
-mod framing;
-mod parts;
 mod run;
 mod unit;
-mod wording;
 
 fn main() {
     let frames = console::is(1, b"--frames");
@@ -104,7 +101,7 @@ fn run_steps(input: &[u8]) {
 }
 
 fn say_bad(input: &[u8], bad: usize) {
-    script::say_bad(
+    reporting::say_bad(
         b"explain",
         input,
         bad,

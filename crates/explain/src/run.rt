@@ -3,18 +3,17 @@ ghost use Prim.Native.Nat.{_≤_, _<_};
 ghost use lib.ListN.{length};
 use crate::checking::Met;
 use crate::checking::check;
-use crate::framing::is_accepted;
-use crate::framing::put_words;
 use crate::unit::Unit;
 use crate::unit::line_end;
 use crate::unit::next_frame;
 use crate::unit::next_line;
-use octets::greater;
-use octets::lesser;
-use octets::minus;
-use octets::one_if;
+use numbers::greater;
+use numbers::lesser;
+use numbers::minus;
+use numbers::one_if;
 use octets::put;
 use state::CacheState;
+use wording::put_words;
 
 // The window of the log program.
 const WINDOW: usize = 16384;
@@ -160,7 +159,7 @@ fn tell_frame(
     wanted: bool,
 ) -> Told {
     let before = *state;
-    let carried = device::carry_out(frame, state, store, window, destination);
+    let carried = execution::carry_out(frame, state, store, window, destination);
     let answer = carried.answer;
     let n = console::within(destination, carried.delivered);
     let delivered = &destination[..n];
@@ -171,7 +170,7 @@ fn tell_frame(
     Told {
         there: true,
         taken: carried.taken,
-        accepted: is_accepted(answer),
+        accepted: log::is_accepted(answer),
         kept,
         held: has_held(met),
         failed: has_failed(met),

@@ -1,7 +1,7 @@
 // The next frame of an input, copied to the front of a buffer, and how its line of words begins. The input is of frames, or of steps.
 ghost use Rattle.io.specs.Counts.{Counts};
+use numbers::lesser;
 use octets::copy_front;
-use octets::lesser;
 use octets::put;
 use scan::Stop;
 use steps::Framed;

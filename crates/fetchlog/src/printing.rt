@@ -5,7 +5,7 @@ ghost use Prim.Native.Nat.{_+_, _-_, _≤_, _<_, _^_};
 ghost use lib.ListN.{length};
 ghost use Rattle.device.specs.Step.{deviceOf};
 ghost use Rattle.fetchlog.specs.Print.{Shows, Prints};
-use octets::one_if;
+use numbers::one_if;
 use state::CacheState;
 
 // Room for the longest line.

@@ -1,6 +1,6 @@
 // Reads steps, one a line, and writes their frames. All lines are judged first: if one of them has no frame, nothing is written.
 use console::Asked;
-use octets::one_if;
+use numbers::one_if;
 use octets::put;
 use scan::Stop;
 use script::Judged;
@@ -76,7 +76,7 @@ fn write(input: &[u8]) {
 }
 
 fn say_bad(input: &[u8], bad: usize) {
-    script::say_bad(
+    reporting::say_bad(
         b"framewriter",
         input,
         bad,

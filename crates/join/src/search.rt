@@ -33,8 +33,8 @@ fn pass(m: Meeting, r: Record, address: usize) -> Meeting
     Meeting {
         first: m.first,
         last: m.last + 1,
-        low: octets::lesser(start, m.low),
-        high: octets::greater(past, m.high),
+        low: numbers::lesser(start, m.low),
+        high: numbers::greater(past, m.high),
         below: m.below,
         held: m.held + len,
     }

@@ -40,7 +40,7 @@ fn put(words: &mut [u16], k: usize, r: Record)
 fn union(m: Meeting) -> Record
     ensures { λ r. ⌜ r ≡ unionOf m ⌝ }
 {
-    let size = octets::minus(m.high, m.low);
+    let size = numbers::minus(m.high, m.low);
     Record {
         start: (m.low % 65536) as u16,
         len: (size % 65536) as u16,
@@ -102,7 +102,7 @@ pub fn splice(words: &mut [u16], m: Meeting)
         seal(words, m, count);
         return;
     }
-    let end = octets::lesser(n + 1, CacheState::RECORDS);
+    let end = numbers::lesser(n + 1, CacheState::RECORDS);
     move_down(words, first + 1, last, end);
     seal(words, m, count);
 }

@@ -1,16 +1,16 @@
 -- A whole journal, for any bytes (01, the agreed scope, "The log program"; docs/RULES.md has its rules): frame after frame is carried out
 -- on what the one before it left, and an unreadable frame ends the run.
-use Prim.Native.Nat.{ℕ, zero, suc, _+_}
+use Prim.Native.Nat.{ℕ, zero, suc}
 use mathlib.Core.Path.{_≡_}
 use mathlib.Core.List.{List, [], _∷_, _++_}
-use mathlib.Core.Bool.{Bool, true, false, not, cond, _&&_, _||_}
+use mathlib.Core.Bool.{Bool, true, false, not, _&&_, _||_}
 use lib.ListN.{length, drop}
 use Rattle.state.specs.Verdict.{Reply, accepted}
 use Rattle.cache.specs.Runs.{start}
 use Rattle.octets.specs.Lists.{count}
 use Rattle.octets.specs.Text.{Puts}
 use Rattle.log.specs.Line.{lineOf}
-use Rattle.journal.specs.declared.run.Replayed.{Replayed}
+use Rattle.journal.specs.declared.Replayed.{Replayed}
 use Rattle.device.specs.Step.{Device, deviceOf}
 use Rattle.device.specs.Frame.{isReadable, takenUp, letterOf, frameSays, frameLeaves, frameDelivers}
 

@@ -1,12 +1,13 @@
-// One line of the log, put into a lent buffer.
+// One line of the log, put into a lent buffer, and the answer that it tells.
 use octets::put;
 use state::Refusal;
 use text::put_byte;
 use text::put_decimal;
 use text::put_hex;
 use text::wide;
+ghost use mathlib.Core.Path.{_≡_};
 ghost use mathlib.Core.List.{_++_, map};
-ghost use Rattle.state.specs.Verdict.{numbersOf};
+ghost use Rattle.state.specs.Verdict.{accepted, numbersOf};
 ghost use Rattle.octets.specs.Text.{ascii, Puts};
 ghost use Rattle.text.specs.Decimal.{decimal};
 ghost use Rattle.log.specs.Line.{answerReply, deliveredFields, answerFields, spaced, lineOf, tooLong};
@@ -19,6 +20,18 @@ pub enum Answer {
     // fresh and replayed bytes of a fetch, records and bytes of an end, bytes of an own write and how many of their addresses were not held before
     Counts(usize, usize),
     Refused(Refusal),
+}
+
+// An answer that is no refusal.
+pub fn is_accepted(answer: Answer) -> bool
+    ensures { λ r. ⌜ r ≡ accepted (answerReply answer) ⌝ }
+{
+    match answer {
+        Answer::Done => true,
+        Answer::Count(_) => true,
+        Answer::Counts(_, _) => true,
+        Answer::Refused(_) => false,
+    }
 }
 
 const BLANK: u8 = b' ';

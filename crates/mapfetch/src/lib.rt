@@ -7,7 +7,7 @@ ghost use Rattle.bytemap.specs.Map.{mapOf};
 ghost use Rattle.bytemap.specs.Fetch.{Fetches};
 ghost use Rattle.mapfetch.specs.Delivery.{Fits, Delivers};
 use crate::judge::judge;
-use bytemap::ByteMap;
+use mapcalls::ByteMap;
 use state::FetchAnswer;
 use stretches::take::take;
 

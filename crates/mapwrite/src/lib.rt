@@ -10,7 +10,7 @@ ghost use Rattle.state.specs.Answers.{ownWriteReply};
 ghost use Rattle.bits.specs.Bits.{wordLimit, mapLimit, isSet, wordsOf};
 ghost use Rattle.bytemap.specs.Map.{mapOf};
 ghost use Rattle.bytemap.specs.OwnWrite.{ownSays, OwnWrites};
-use bytemap::ByteMap;
+use mapcalls::ByteMap;
 use state::FetchAnswer;
 use state::OwnWriteAnswer;
 

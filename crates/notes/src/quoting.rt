@@ -3,7 +3,7 @@ ghost use mathlib.Core.Path.{_≡_};
 ghost use lib.ListN.{length, getD};
 ghost use Rattle.octets.specs.Text.{Puts};
 ghost use Rattle.notes.specs.Quoting.{isPlain, quotedByte, quoted};
-use octets::lesser;
+use numbers::lesser;
 use octets::put;
 
 // The most bytes of a text that are shown.

@@ -1,5 +1,5 @@
 // Bytes from one buffer to another.
-use crate::numbers::lesser;
+use numbers::lesser;
 ghost use mathlib.Core.Path.{_≡_};
 ghost use Prim.Native.Nat.{_-_};
 ghost use lib.ListN.{length, take};

@@ -2,16 +2,11 @@
 // The functions set, copy and move bytes in a buffer, and put text into one. Each takes every input: what does not fit is left out.
 mod copy;
 mod fill;
-mod numbers;
 mod shift;
 mod text;
 
 pub use copy::copy_at;
 pub use copy::copy_front;
 pub use fill::clear;
-pub use numbers::greater;
-pub use numbers::lesser;
-pub use numbers::minus;
-pub use numbers::one_if;
 pub use shift::move_up;
 pub use text::put;

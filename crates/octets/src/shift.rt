@@ -1,5 +1,5 @@
 // Bytes to another place of their own buffer.
-use crate::numbers::lesser;
+use numbers::lesser;
 ghost use mathlib.Core.Path.{_≡_};
 ghost use Prim.Native.Nat.{_+_, _-_, min};
 ghost use lib.ListN.{length};

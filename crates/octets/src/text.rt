@@ -1,7 +1,7 @@
 // Text put into a buffer.
 use crate::copy::copy_at;
-use crate::numbers::lesser;
-use crate::numbers::minus;
+use numbers::lesser;
+use numbers::minus;
 ghost use Rattle.octets.specs.Text.{Puts};
 
 // What does not fit is left out; the reply is the place behind what was put.

@@ -3,8 +3,10 @@ use Prim.Native.Nat.{ℕ, _+_, _≤_, _<_}
 use native.Mathlib.Omega.{arith}
 use mathlib.Core.Path.{_≡_, refl, ap, sym, subst, _∙_}
 use mathlib.Core.List.{List, [], _∷_}
-use mathlib.Core.Bool.{true, false, false≢true}
+use mathlib.Core.Bool.{Bool, true, false, cond, false≢true}
+use lib.Dec.{leb}
 use lib.ListN.{length}
+use borrow.Author.Tests.{leb-true}
 use Rattle.octets.specs.Lists.{overwrite}
 use Rattle.octets.proofs.Overwrite.{overwrite-none}
 use Rattle.state.specs.declared.Record.{Record}
@@ -21,7 +23,8 @@ use Rattle.state.specs.declared.answer.OwnWriteAnswer.the-variants.{Done, Refus
 use Rattle.state.specs.Answers.{ownWriteReply}
 use Rattle.state.proofs.Verdict.{verdict-bars}
 use Rattle.store.specs.Store.{partStart, location, packed, from, sees, written}
-use Rattle.store.proofs.Spans.{written-none}
+use Rattle.state.proofs.Places.{none-held}
+use Rattle.store.proofs.Spans.{written-none, written-new}
 use Rattle.cache.specs.Fetch.{admitChecks}
 use Rattle.cache.specs.OwnWrite.{ownSays, ownState, ownStore, ownWindow}
 use Rattle.cache.proofs.Accepted.{own-judged}
@@ -126,12 +129,19 @@ module _ (words store window : List ℕ) (c a : ℕ) (bytes : List ℕ) where
           pub placed : at + n ≤ heldLimit
           placed = span-placed words store c a n a bytes may-hold new at words′ store′ H
 
+          -- put over what was held, or there already, since all is new
+          stands : (b : Bool) → leb n new ≡ b → cond b store′ (overwrite store′ (partStart c + at) bytes) ≡ packed store c (joined rs a n) value
+          stands true e =
+              let all : n ≤ fresh rs a n = omega (arith, leb-true n new e, H .counted) in
+              H .stored ∙ ap (packed store c (joined rs a n)) (sym (written-new rs (location s c) store a bytes (none-held rs a n all)))
+          stands false e = span-writes words store c a n a bytes may-hold new at words′ store′ H bytes refl
+
           pub span-written :
-              (store″ window′ : List ℕ) → store″ ≡ overwrite store′ (partStart c + at) bytes → window′ ≡ overwrite window a bytes
+              (store″ window′ : List ℕ) → store″ ≡ cond (leb n new) store′ (overwrite store′ (partStart c + at) bytes) → window′ ≡ overwrite window a bytes
               → OwnWrites words store window c a bytes (Done n new) words′ store″ window′
           span-written store″ window′ puts host =
               accepting (Done n new) words′ store″ window′ (n ∷ fresh rs a n ∷ []) (ap (λ (k : ℕ). replied (n ∷ k ∷ [])) (H .counted))
-              (taken (H .bytes) (H .records)) (H .state) (puts ∙ span-writes words store c a n a bytes may-hold new at words′ store′ H bytes refl) host
+              (taken (H .bytes) (H .records)) (H .state) (puts ∙ stands (leb n new) refl) host
 
 -- No bytes: what is written stands there already.
 none-written :

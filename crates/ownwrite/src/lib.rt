@@ -2,13 +2,16 @@
 // that are given, and the window is not read.
 ghost use mathlib.Core.Path.{_≡_};
 ghost use mathlib.Core.List.{[]};
-ghost use mathlib.Core.Bool.{true};
-ghost use Prim.Native.Nat.{_<_};
+ghost use mathlib.Core.Bool.{true, cond};
+ghost use Prim.Native.Nat.{_+_, _<_, _≤_};
+ghost use lib.Dec.{leb};
 ghost use lib.ListN.{length};
+ghost use Rattle.octets.specs.Lists.{overwrite};
 ghost use Rattle.state.specs.Verdict.{replied, accepted, verdict};
 ghost use Rattle.cache.specs.Fetch.{admitChecks};
-ghost use Rattle.state.specs.Limits.{stateWords};
+ghost use Rattle.state.specs.Limits.{commandLimit, heldLimit, storeSize, stateWords};
 ghost use Rattle.state.specs.Words.{stateOf};
+ghost use Rattle.store.specs.Store.{partStart};
 ghost use Rattle.ownwrite.specs.OwnWrite.{OwnWrites};
 use admission::admit::Admission;
 use admission::admit::admit;
@@ -18,6 +21,17 @@ use state::CacheState;
 use state::OwnWriteAnswer;
 use state::Refusal;
 use store::part;
+
+// The bytes of a span that is held are put over what was held of it before. Where all of its addresses are new they stand there already.
+fn put_over(store: &mut [u8], command: usize, place: usize, bytes: &[u8], fresh: usize)
+    requires { ⌜ (command < commandLimit) × (length (now store) ≡ storeSize) × (place + length (now bytes) ≤ heldLimit) ⌝ }
+    ensures { λ _. ⌜ now (store .exit) ≡ cond (leb (length (now (bytes .entry))) fresh) (now (store .entry)) (overwrite (now (store .entry)) (partStart command + place) (now (bytes .entry))) ⌝ }
+{
+    if bytes.len() <= fresh {
+        return;
+    }
+    part::put(store, command, place, bytes);
+}
 
 // A byte or more: they are held, if there is room for what they bring, put over what was held of their span before, and written into the window.
 fn write_span(
@@ -37,7 +51,7 @@ fn write_span(
         Holding::Bytes => OwnWriteAnswer::Refused(Refusal::TooManyBytes),
         Holding::Records => OwnWriteAnswer::Refused(Refusal::TooManyRecords),
         Holding::Span { fresh, place } => {
-            part::put(store, command, place, bytes);
+            put_over(store, command, place, bytes, fresh);
             octets::copy_at(window, address, bytes);
             OwnWriteAnswer::Done { written, fresh }
         }

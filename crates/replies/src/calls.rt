@@ -1,16 +1,14 @@
 // The replies of the calls.
 use crate::status::OK;
 use crate::status::status;
-use cache::host_write::WriteAnswer;
-use cache::show::ShowAnswer;
 use state::BeginAnswer;
 use state::EndAnswer;
 use state::FetchAnswer;
+use state::HostWriteAnswer;
 use state::OwnWriteAnswer;
+use state::ShowAnswer;
 ghost use mathlib.Core.Path.{_≡_};
-ghost use Rattle.state.specs.Answers.{beginReply, endReply, fetchReply, ownWriteReply};
-ghost use Rattle.cache.specs.HostWrite.{writeReply};
-ghost use Rattle.cache.specs.Show.{showReply};
+ghost use Rattle.state.specs.Answers.{beginReply, endReply, fetchReply, hostWriteReply, ownWriteReply, showReply};
 ghost use Rattle.replies.specs.Replies.{begunOf, endedOf, fetchedOf, writtenOf, shownOf};
 
 #[repr(C)]
@@ -95,16 +93,16 @@ pub fn fetch_reply(answer: FetchAnswer) -> Fetched
     }
 }
 
-pub fn write_reply(answer: WriteAnswer) -> Written
-    ensures { λ r. ⌜ r ≡ writtenOf (writeReply answer) ⌝ }
+pub fn write_reply(answer: HostWriteAnswer) -> Written
+    ensures { λ r. ⌜ r ≡ writtenOf (hostWriteReply answer) ⌝ }
 {
     match answer {
-        WriteAnswer::Refused(why) => Written {
+        HostWriteAnswer::Refused(why) => Written {
             status: status(why),
             bytes: 0,
             fresh: 0,
         },
-        WriteAnswer::Done(n) => Written {
+        HostWriteAnswer::Done(n) => Written {
             status: OK,
             bytes: n,
             fresh: 0,

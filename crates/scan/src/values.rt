@@ -1,7 +1,7 @@
 // What the digits of a word stand for.
 use crate::classes::hex_value;
-use octets::lesser;
-use octets::minus;
+use numbers::lesser;
+use numbers::minus;
 use text::wide;
 ghost use mathlib.Core.Path.{_≡_};
 ghost use Prim.Native.Nat.{min};

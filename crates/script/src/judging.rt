@@ -4,7 +4,7 @@ ghost use Prim.Native.Nat.{_≤_};
 ghost use lib.ListN.{length, replicate};
 ghost use Rattle.steps.specs.Frame.{framedSays};
 ghost use Rattle.script.specs.Judging.{lineSays, judged, counts, judgedOf, judgement};
-use crate::reporting::report;
+use reporting::report;
 use scan::Stop;
 use state::CacheState;
 use steps::Framed;

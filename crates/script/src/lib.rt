@@ -1,7 +1,5 @@
 // A file of steps: all its lines are judged, and each that has no frame is reported on standard error.
 mod judging;
-mod reason;
-mod reporting;
 
 pub use judging::FRAME;
 pub use judging::Judged;
@@ -9,4 +7,3 @@ pub use judging::Judgement;
 pub use judging::MOST;
 pub use judging::judge;
 pub use judging::room;
-pub use reporting::say_bad;

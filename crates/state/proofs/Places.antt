@@ -91,6 +91,21 @@ unfolding span
 length-span a zero = refl
 length-span a (suc n) = ap suc (length-span (suc a) n)
 
+-- where all addresses of a span are fresh, none of them is held
+pub none-held : (rs : List Record) (a n : ℕ) → n ≤ fresh rs a n → (i : ℕ) → i < n → held rs (a + i) ≡ false
+unfolding span countFresh
+none-held rs a zero all i h = absurd (omega arith)
+none-held rs a (suc n) all i h = go (held rs a) refl all (none-held rs (suc a) n) i h
+  where
+    most : fresh rs (suc a) n ≤ n
+    most = omega (arith, count-all rs (span (suc a) n), length-span (suc a) n)
+
+    go : (b : Bool) → held rs a ≡ b → suc n ≤ cond b (fresh rs (suc a) n) (suc (fresh rs (suc a) n))
+        → (n ≤ fresh rs (suc a) n → (i : ℕ) → i < n → held rs (suc a + i) ≡ false) → (i : ℕ) → i < suc n → held rs (a + i) ≡ false
+    go true e all rest i h = absurd (omega (arith, most))
+    go false e all rest zero h = ap (held rs) (add-zero a) ∙ e
+    go false e all rest (suc i) h = ap (held rs) (omega arith) ∙ rest (omega arith) i (omega arith)
+
 pub counts-fill : CountsFill
 counts-fill rs a n = count-all rs (span a n) ∙ length-span a n
 

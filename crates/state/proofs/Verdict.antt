@@ -9,7 +9,8 @@ use lib.Dec.{ltb, eqb}
 use borrow.Author.Tests.{ltb-true, eq-eqb}
 use Rattle.octets.specs.Lists.{all}
 use Rattle.octets.proofs.Lists.{and-left, and-right}
-use Rattle.state.specs.Verdict.{Reply, refused, replied, accepted, Check, _⇒_, verdict, numbers, applying, ascendFrom, minimum, lowestOr, contains, keepsTo}
+use Rattle.state.specs.Verdict.{Reply, refused, replied, accepted, Check, _⇒_, verdict}
+use Rattle.state.specs.Verdict.{numbers, applying, ascendFrom, minimum, lowestOr, contains, keepsTo}
 
 -- Accepted
 

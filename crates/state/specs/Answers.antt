@@ -8,6 +8,10 @@ use Rattle.state.specs.declared.answer.EndAnswer.{EndAnswer}
 use Rattle.state.specs.declared.answer.EndAnswer.the-variants as end
 use Rattle.state.specs.declared.answer.OwnWriteAnswer.{OwnWriteAnswer}
 use Rattle.state.specs.declared.answer.OwnWriteAnswer.the-variants as own
+use Rattle.state.specs.declared.answer.HostWriteAnswer.{HostWriteAnswer}
+use Rattle.state.specs.declared.answer.HostWriteAnswer.the-variants as host
+use Rattle.state.specs.declared.answer.ShowAnswer.{ShowAnswer}
+use Rattle.state.specs.declared.answer.ShowAnswer.the-variants as show
 use Rattle.state.specs.Refusals.{number}
 use Rattle.state.specs.Verdict.{Reply, refused, replied}
 
@@ -26,3 +30,11 @@ endReply (end.Refused r) = refused (number r)
 abbrev pub ownWriteReply : OwnWriteAnswer → Reply
 ownWriteReply (own.Done written fresh) = replied (written ∷ fresh ∷ [])
 ownWriteReply (own.Refused r) = refused (number r)
+
+abbrev pub hostWriteReply : HostWriteAnswer → Reply
+hostWriteReply (host.Done n) = replied (n ∷ [])
+hostWriteReply (host.Refused r) = refused (number r)
+
+abbrev pub showReply : ShowAnswer → Reply
+showReply (show.Record start len) = replied (start ∷ len ∷ [])
+showReply (show.Refused r) = refused (number r)

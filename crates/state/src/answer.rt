@@ -1,4 +1,4 @@
-// What begin, fetch, end and own write answer, the record engine's and the byte map's alike.
+// What each call answers: begin, fetch, end and own write of the record engine and of the byte map alike, host write and show.
 use crate::refusal::Refusal;
 
 pub enum BeginAnswer {
@@ -21,5 +21,16 @@ pub enum EndAnswer {
 pub enum OwnWriteAnswer {
     // how many bytes were written, and how many of their addresses were not held before
     Done { written: usize, fresh: usize },
+    Refused(Refusal),
+}
+
+pub enum HostWriteAnswer {
+    // how many bytes were written
+    Done(usize),
+    Refused(Refusal),
+}
+
+pub enum ShowAnswer {
+    Record { start: u16, len: u16 },
     Refused(Refusal),
 }

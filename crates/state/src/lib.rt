@@ -13,7 +13,9 @@ mod refusal;
 pub use answer::BeginAnswer;
 pub use answer::EndAnswer;
 pub use answer::FetchAnswer;
+pub use answer::HostWriteAnswer;
 pub use answer::OwnWriteAnswer;
+pub use answer::ShowAnswer;
 pub use refusal::Refusal;
 
 // A run of held addresses. An address is below 65,536 and a record holds at most 4,096 bytes, so 16 bits serve for both.

@@ -4,7 +4,7 @@ use crate::line::parse;
 use fields::Meaning;
 use fields::Step;
 use frames::WriteAnswer;
-use octets::lesser;
+use numbers::lesser;
 ghost use mathlib.Core.Path.{_≡_};
 ghost use lib.ListN.{length, take};
 ghost use Rattle.octets.specs.Lists.{overwrite};

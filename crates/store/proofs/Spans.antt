@@ -17,7 +17,7 @@ use Rattle.state.specs.Records.{inSpan, held, place, span, addresses, total, jo
 use Rattle.state.specs.State.{ascending}
 use Rattle.state.proofs.Laws.{held-joined, ascending-joined, length-addresses, place-below, at-place, map-held, packed-back}
 use Rattle.state.proofs.Places.{map-read, place-along, place-suc, place-grows}
-use Rattle.store.specs.Store.{from, written}
+use Rattle.store.specs.Store.{from, sees, written}
 
 -- where an address lies to a span
 data Beside (a n x : ℕ) : Type 0 where
@@ -50,6 +50,21 @@ written-span a bytes f =
     at-each : (i : ℕ) → i < length bytes → written a bytes f (a + i) ≡ getD bytes (0 + i) 0
     at-each i h =
         rw (both (le-leb a (a + i) (omega arith)) (lt-ltb (a + i) (a + length bytes) (omega arith))) (ap (λ (k : ℕ). getD bytes k 0) (omega arith))
+
+module _ (rs : List Record) (location : ℕ → ℕ) (store : List ℕ) (a : ℕ) (bytes : List ℕ) where
+  abbrev seen : ℕ → ℕ
+  seen = sees rs location store (from a bytes)
+
+  -- where none of their addresses is held, the written bytes are seen there already, if they are the source
+  pub written-new : ((i : ℕ) → i < length bytes → held rs (a + i) ≡ false) → written a bytes seen ≡ seen
+  written-new unheld = fun-ext λ x. go x (beside a (length bytes) x)
+    where
+      go : (x : ℕ) → Beside a (length bytes) x → written a bytes seen x ≡ seen x
+      go x (lower h e) = rw e
+      go x (inner h k e) =
+          let split : a + (x - a) ≡ x = omega arith in
+          rw (e, sym (ap (held rs) split) ∙ unheld (x - a) (omega arith))
+      go x (upper h e) = rw e
 
 module _ (rs : List Record) (a n : ℕ) (up : ascending 0 rs ≡ true) (low : a + n ≤ windowLimit) where
   abbrev rs′ : List Record

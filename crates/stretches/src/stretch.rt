@@ -1,6 +1,6 @@
 // A stretch: addresses one behind the other, within a word of the map, that are all held or all not.
 ghost use Rattle.stretches.specs.Values.{Alike};
-use octets::lesser;
+use numbers::lesser;
 
 // So many of the lowest bits are like the lowest, at most n.
 pub(crate) fn alike(bits: u64, n: usize) -> usize

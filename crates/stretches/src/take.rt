@@ -1,7 +1,7 @@
 // The bytes of a span come to be held: those that were not are read from the window.
 use crate::stretch::alike;
 ghost use mathlib.Core.Path.{_≡_};
-ghost use Prim.Native.Nat.{_+_, _<_, _≤_};
+ghost use Prim.Native.Nat.{_+_, _≤_};
 ghost use lib.ListN.{length};
 ghost use Rattle.octets.specs.Lists.{overwrite, part};
 ghost use Rattle.bits.specs.Bits.{isSet, wordLimit, mapLimit};
@@ -35,7 +35,7 @@ pub fn take(words: &[u64], values: &mut [u8], window: &[u8], low: usize, n: usiz
     while i < n {
         let x = low + i;
         let rest = words[x / 64] >> (x % 64);
-        let k = alike(rest, octets::lesser(64 - x % 64, n - i));
+        let k = alike(rest, numbers::lesser(64 - x % 64, n - i));
         take_stretch(rest, values, window, x, k);
         i = i + k;
     }

@@ -1,7 +1,7 @@
 // Bytes in hexadecimal.
 use crate::byte::put_byte;
 use crate::byte::wide;
-use octets::lesser;
+use numbers::lesser;
 ghost use mathlib.Core.Path.{_≡_};
 ghost use Prim.Native.Nat.{_*_, _≤_};
 ghost use lib.ListN.{length};

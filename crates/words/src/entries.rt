@@ -25,7 +25,7 @@ pub fn used(words: &[u16]) -> usize
     if word == 0 {
         return 0;
     }
-    octets::lesser(word - 1, CacheState::RECORDS)
+    numbers::lesser(word - 1, CacheState::RECORDS)
 }
 
 // An entry.

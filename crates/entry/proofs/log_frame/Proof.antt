@@ -44,7 +44,7 @@ returns c =
     let done = carried shown .carry-out .ensures in
     record {
       taken = done .taken;
-      accepted = c .accepted .ensures ∙ ap accepted (done .answer);
+      accepted = c .is-accepted .ensures ∙ ap accepted (done .answer);
       leaves = done .leaves;
       line = puts-is (put .put-line .ensures) (equal-lines number (done .letter) (done .answer) (done .delivered));
     }

@@ -87,8 +87,8 @@ module _ (c : tie.After-holding) where
   fits : place + n (s k) ≤ heldLimit
   fits = placed (words k) (store k) (window k) _ _ (bytes k) (s k .pre .1) (s k .pre .0) (s k .pre .2) (words′ k) (store′ k) new place held
 
-put-requires : tie.Need-put-requires
-put-requires c κs =
+put-over-requires : tie.Need-put-over-requires
+put-over-requires c κs =
     let h = c .before .before in
     let a = A (s (k h)) in
     (a .command, omega (arith, a .size), fits h)
@@ -102,7 +102,7 @@ returns-3 c =
     let a = s l .args in
     let all = take-all (length (window l) - a .address) (bytes l) (omega (arith, A (s l) .inside)) in
     span-written (words l) (store l) (window l) _ _ (bytes l) (s l .pre .1) (s l .pre .0) (s l .pre .2) (words′ l) (store′ l) (new h) (place h) (held h) _ _
-    (put .put .ensures) (copied .copy-at .ensures ∙ ap (overwrite (window l) (a .address)) all)
+    (put .put-over .ensures) (copied .copy-at .ensures ∙ ap (overwrite (window l) (a .address)) all)
 
 pub write-span-spec : {M : Type 1} → statement M
 write-span-spec =
@@ -112,7 +112,7 @@ write-span-spec =
     (λ c. search needs)
     (λ c. search needs)
     (λ c. search needs)
-    put-requires
+    put-over-requires
     (λ c κs. search needs)
     (λ c. search needs)
     (λ c. search needs)

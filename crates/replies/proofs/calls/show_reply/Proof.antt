@@ -3,8 +3,8 @@ use Prim.Native.Nat.{ℕ}
 use mathlib.Core.Path.{ap, sym, _∙_}
 use borrow.Author.Needs.{needs}
 use Rattle.state.specs.Verdict.{refused}
-use Rattle.cache.specs.declared.show.ShowAnswer.{ShowAnswer}
-use Rattle.cache.specs.Show.{showReply}
+use Rattle.state.specs.declared.answer.ShowAnswer.{ShowAnswer}
+use Rattle.state.specs.Answers.{showReply}
 use Rattle.replies.specs.Replies.{shownOf}
 use Rattle.replies.proofs.calls.show_reply.Statement.{statement}
 use Rattle.replies.proofs.calls.show_reply.Tie as tie

@@ -3,8 +3,8 @@ use Prim.Native.Nat.{ℕ}
 use mathlib.Core.Path.{ap, sym, _∙_}
 use borrow.Author.Needs.{needs}
 use Rattle.state.specs.Verdict.{refused}
-use Rattle.cache.specs.declared.host_write.WriteAnswer.{WriteAnswer}
-use Rattle.cache.specs.HostWrite.{writeReply}
+use Rattle.state.specs.declared.answer.HostWriteAnswer.{HostWriteAnswer}
+use Rattle.state.specs.Answers.{hostWriteReply}
 use Rattle.replies.specs.Replies.{writtenOf}
 use Rattle.replies.proofs.calls.write_reply.Statement.{statement}
 use Rattle.replies.proofs.calls.write_reply.Tie as tie
@@ -12,10 +12,10 @@ use Rattle.replies.proofs.calls.write_reply.Tie as tie
 returns : tie.Need-returns
 returns c =
     ap (λ (n : ℕ). writtenOf (refused n)) (c .status .ensures)
-    ∙ sym (ap (λ (a : WriteAnswer). writtenOf (writeReply a)) (c .before .before .answer .given .1))
+    ∙ sym (ap (λ (a : HostWriteAnswer). writtenOf (hostWriteReply a)) (c .before .before .answer .given .1))
 
 returns-2 : tie.Need-returns-2
-returns-2 c = sym (ap (λ (a : WriteAnswer). writtenOf (writeReply a)) (c .before .answer2 .given .1))
+returns-2 c = sym (ap (λ (a : HostWriteAnswer). writtenOf (hostWriteReply a)) (c .before .answer2 .given .1))
 
 pub write-reply-spec : {M : Type 1} → statement M
 write-reply-spec =
