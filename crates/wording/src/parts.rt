@@ -1,5 +1,7 @@
 // The parts of a span that is fetched or written: addresses that were not held before, and those that a record held.
 ghost use Prim.Native.Nat.{_<_};
+ghost use Rattle.octets.specs.Text.{Puts};
+ghost use Rattle.wording.specs.Words.{span};
 use numbers::greater;
 use numbers::lesser;
 use numbers::minus;
@@ -15,7 +17,9 @@ pub(crate) fn wide(n: u16) -> usize
 }
 
 // An address and a length.
-pub(crate) fn put_span(line: &mut [u8], at: usize, start: usize, len: usize) -> usize {
+pub(crate) fn put_span(line: &mut [u8], at: usize, start: usize, len: usize) -> usize
+    ensures { λ r. ⌜ Puts (now (line .entry)) at (span start len) r (now (line .exit)) ⌝ }
+{
     let next = put_decimal(line, at, start);
     let next = put(line, next, b"+");
     put_decimal(line, next, len)

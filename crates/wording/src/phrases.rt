@@ -1,4 +1,8 @@
 // A frame in words: what is asked, and what came of it.
+ghost use mathlib.Core.List.{_++_};
+ghost use Rattle.octets.specs.Text.{ascii, Puts};
+ghost use Rattle.text.specs.Decimal.{decimal};
+ghost use Rattle.wording.specs.Words.{span, act, asked, turnedAway};
 use crate::parts::find;
 use crate::parts::put_parts;
 use crate::parts::put_span;
@@ -10,15 +14,19 @@ use state::CacheState;
 use state::Refusal;
 use text::put_decimal;
 
-fn put_command(line: &mut [u8], at: usize, command: usize) -> usize {
+fn put_command(line: &mut [u8], at: usize, command: usize) -> usize
+    ensures { λ r. ⌜ Puts (now (line .entry)) at (ascii "command " ++ decimal command) r (now (line .exit)) ⌝ }
+{
     let next = put(line, at, b"command ");
     put_decimal(line, next, command)
 }
 
 // What a command does.
-fn put_act(line: &mut [u8], at: usize, command: usize, act: &[u8]) -> usize {
+fn put_act(line: &mut [u8], at: usize, command: usize, words: &[u8]) -> usize
+    ensures { λ r. ⌜ Puts (now (line .entry)) at (act command (now (words .entry))) r (now (line .exit)) ⌝ }
+{
     let next = put_command(line, at, command);
-    put(line, next, act)
+    put(line, next, words)
 }
 
 // What it does, and where.
@@ -26,21 +34,27 @@ fn put_access(
     line: &mut [u8],
     at: usize,
     command: usize,
-    act: &[u8],
+    words: &[u8],
     address: usize,
     size: usize,
-) -> usize {
-    let next = put_act(line, at, command, act);
+) -> usize
+    ensures { λ r. ⌜ Puts (now (line .entry)) at (act command (now (words .entry)) ++ span address size) r (now (line .exit)) ⌝ }
+{
+    let next = put_act(line, at, command, words);
     put_span(line, next, address, size)
 }
 
-fn put_host_write(line: &mut [u8], at: usize, address: usize, size: usize) -> usize {
+fn put_host_write(line: &mut [u8], at: usize, address: usize, size: usize) -> usize
+    ensures { λ r. ⌜ Puts (now (line .entry)) at (ascii "the host writes " ++ span address size) r (now (line .exit)) ⌝ }
+{
     let next = put(line, at, b"the host writes ");
     put_span(line, next, address, size)
 }
 
 // What a step asks.
-pub(crate) fn put_asked(line: &mut [u8], at: usize, step: Step) -> usize {
+pub(crate) fn put_asked(line: &mut [u8], at: usize, step: Step) -> usize
+    ensures { λ r. ⌜ Puts (now (line .entry)) at (asked step) r (now (line .exit)) ⌝ }
+{
     match step {
         Step::Begin { command } => put_act(line, at, command, b" begins"),
         Step::Fetch {
@@ -58,9 +72,11 @@ pub(crate) fn put_asked(line: &mut [u8], at: usize, step: Step) -> usize {
     }
 }
 
-pub(crate) fn put_refused(line: &mut [u8], at: usize, refusal: Refusal) -> usize {
+pub(crate) fn put_refused(line: &mut [u8], at: usize, refusal: Refusal) -> usize
+    ensures { λ r. ⌜ Puts (now (line .entry)) at (turnedAway refusal) r (now (line .exit)) ⌝ }
+{
     let next = put(line, at, b": refused (");
-    let next = put_decimal(line, next, refusal.number() as usize);
+    let next = put_decimal(line, next, text::wide(refusal.number()));
     let next = put(line, next, b"): ");
     reasons::put_reason(line, next, refusal)
 }
