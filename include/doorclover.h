@@ -59,7 +59,7 @@
  * stack, and is not proved. What your memcpy and memset take comes on top.
  *     fresh   0      begin 128      host write  56      frame read   168
  *     show   88      fetch 520      own write  584      frame write   48
- *                    end   176                          journal     3544
+ *                    end   176                          journal     3064
  *     of the byte map: fresh 16, begin 144, fetch 424, own write 424, end 176
  * DOORCLOVER_STACK and DOORCLOVER_JOURNAL_STACK are these with some room.
  *

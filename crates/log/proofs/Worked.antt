@@ -8,7 +8,7 @@ use Rattle.state.specs.Verdict.{refused, replied}
 use Rattle.kinds.specs.Table.{kindOf}
 use Rattle.octets.specs.Text.{ascii}
 use Rattle.text.specs.Decimal.{digits, decimal}
-use Rattle.text.specs.Hexadecimal.{hexDigit, hexadecimal}
+use Rattle.text.specs.Hexadecimal.{hexDigits, hexadecimal}
 use Rattle.log.specs.Line.{fetchLetter, deliveredFields, answerFields, spaced, lineOf, tooLong}
 
 worked :
@@ -21,7 +21,7 @@ worked :
     ∷ lineOf 7 (code "F") (refused 21) []
     ∷ []
     ≡ map ascii ("1 B ok\n" ∷ "2 H ok 4\n" ∷ "3 F ok 4 0 61626364\n" ∷ "4 H ok 2\n" ∷ "5 F ok 4 4 0000616263640000\n" ∷ "6 E ok 1 8\n" ∷ "7 F no 21\n" ∷ [])
-unfolding lineOf spaced answerFields deliveredFields decimal digits hexadecimal hexDigit
+unfolding lineOf spaced answerFields deliveredFields decimal digits hexadecimal hexDigits
 worked = refl
 
 others :
@@ -32,7 +32,7 @@ others :
     ∷ lineOf 18446744073709551615 (code "?") (refused 3) []
     ∷ []
     ≡ map ascii ("10 W ok 4 2\n" ∷ "11 H ok 4096\n" ∷ "99 F ok 0 0 -\n" ∷ "100 F ok 2 1 09aff0\n" ∷ "18446744073709551615 ? no 3\n" ∷ [])
-unfolding lineOf spaced answerFields deliveredFields decimal digits hexadecimal hexDigit
+unfolding lineOf spaced answerFields deliveredFields decimal digits hexadecimal hexDigits
 others = refl
 
 too-long : tooLong ≡ 105 ∷ 110 ∷ 112 ∷ 117 ∷ 116 ∷ 32 ∷ 116 ∷ 111 ∷ 111 ∷ 32 ∷ 108 ∷ 111 ∷ 110 ∷ 103 ∷ 10 ∷ []

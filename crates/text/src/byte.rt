@@ -15,7 +15,7 @@ pub fn put_byte(out: &mut [u8], at: usize, byte: u8) -> usize
     }
 }
 
-// A byte as an index.
+// A byte as a number.
 pub fn wide(byte: u8) -> usize
     ensures { λ r. ⌜ (r ≡ byte) × (r < 256) ⌝ }
 {

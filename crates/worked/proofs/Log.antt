@@ -23,7 +23,7 @@ use Rattle.frames.specs.Kinds.{dataSize}
 use Rattle.frames.specs.Read.{fieldsSay, readSays}
 use Rattle.octets.specs.Text.{ascii}
 use Rattle.text.specs.Decimal.{digits, decimal}
-use Rattle.text.specs.Hexadecimal.{hexDigit, hexadecimal}
+use Rattle.text.specs.Hexadecimal.{hexDigits, hexadecimal}
 use Rattle.log.specs.Line.{deliveredFields, answerFields, spaced, lineOf}
 
 worked :
@@ -36,7 +36,7 @@ worked :
     ∷ 0x48 ∷ 0x00 ∷ 0x00 ∷ 0x00 ∷ 0x00
     ∷ 0x28 ∷ 0x00 ∷ 0x40 ∷ 0x00 ∷ 0x80 ∷ []))
     ≡ ascii "1 B ok\n2 H ok 4\n3 F ok 4 0 61626364\n4 H ok 2\n5 F ok 4 4 0000616263640000\n6 E ok 1 8\n7 F no 21\n"
-unfolding logFrom entriesIn stepOf frameSays frameLeaves frameDelivers lineOf deliveredFields answerFields spaced digits decimal hexDigit hexadecimal
+unfolding logFrom entriesIn stepOf frameSays frameLeaves frameDelivers lineOf deliveredFields answerFields spaced digits decimal hexDigits hexadecimal
     readSays fieldsSay fieldsOf dataSize notZero zeroBroken verdict accepted beginSays beginState beginStore fetchSays fetchState fetchStore fetchDest
     endSays endState endStore hostSays hostWindow all ascending commandHolds holds total held span addresses place countFresh countHeld keep lowest highest
     joined

@@ -31,6 +31,7 @@ pub fn cases() -> Vec<Case> {
             EIGHT_LOADS_LOG,
         ),
         Case::new("spans without a byte that touch", no_bytes(), NO_BYTES_LOG),
+        Case::new("every byte", every_byte(), every_byte_log()),
     ];
     cases.extend(about_64_records());
     cases.extend(about_the_longest_input());
@@ -61,6 +62,23 @@ const SITUATION_K_LOG: &str = "1 B ok\n\
                                4 E ok 1 3\n\
                                5 B ok\n\
                                6 F ok 3 0 6e6577\n";
+
+/// Every byte in the window, and a fetch of them all.
+fn every_byte() -> Vec<u8> {
+    let bytes: Vec<u8> = (0..=255).collect();
+    [
+        frame(3, 0, 0, 256, &bytes),
+        frame(0, 1, 0, 0, &[]),
+        fetch(0, 256),
+    ]
+    .concat()
+}
+
+/// The two characters of each byte.
+fn every_byte_log() -> String {
+    let pairs: String = (0..=255).map(|byte: u8| format!("{byte:02x}")).collect();
+    format!("1 H ok 256\n2 B ok\n3 F ok 256 0 {pairs}\n")
+}
 
 /// A fetch by command 1.
 fn fetch(address: u64, length: u64) -> Vec<u8> {

@@ -19,9 +19,6 @@ use Rattle.text.proofs.hexadecimal.put_hex.Tie as tie
 returns : tie.Need-returns
 returns c = let args = c .before .before .before .args in puts-past (now (args .out)) (args .at) (hexadecimal (now (args .bytes))) (omega arith)
 
-hex-table-requires : tie.Need-hex-table-requires
-hex-table-requires c κs = search needs
-
 sub-lesser : tie.Need-sub-lesser
 sub-lesser c = search needs
 
@@ -41,7 +38,7 @@ slice-aggregate-put-pairs : tie.Need-slice-aggregate-put-pairs
 slice-aggregate-put-pairs c = simp length-take (omega arith)
 
 put-pairs-requires : tie.Need-put-pairs-requires
-put-pairs-requires c κs = (c .before .before .before .before .hex-table .ensures, simp (length-take, length-drop) (omega arith))
+put-pairs-requires c κs = simp (length-take, length-drop) (omega arith)
 
 mul-next : tie.Need-mul-next
 mul-next c = search needs
@@ -97,10 +94,10 @@ module _ (out bytes : List ℕ) (at whole : ℕ) (inside : at < length out) (is 
 -- what is known once the pairs are put
 module _ (lent : tie.After-put-pairs) where
   abbrev found : tie.After-lesser
-  found = lent .before .before .before .before
+  found = lent .before .before .before
 
   abbrev start : tie.Start
-  start = found .before .before .before .before .before
+  start = found .before .before .before .before
 
   abbrev out-given : List ℕ
   out-given = now (start .args .out)
@@ -125,7 +122,8 @@ module _ (lent : tie.After-put-pairs) where
 returns-2 : tie.Need-returns-2
 returns-2 c =
     let put = c .before .before in
-    let lent = put .before .before .before .before .before .before .before in
+    let some-left = put .before .before .before in
+    let lent = some-left .before .before .before in
     one-cut (out-given lent) (bytes-given lent) (start lent .args .at) (whole-found lent) (inside-out lent) (found lent .lesser .ensures)
     (omega arith)
     (pairs-put lent)
@@ -146,7 +144,6 @@ put-hex-spec =
     tie.close
     (tie.spec
     returns
-    hex-table-requires
     sub-lesser
     lesser-requires
     sub-put-pairs

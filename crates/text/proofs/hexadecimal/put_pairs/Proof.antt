@@ -8,44 +8,39 @@ use lib.Seq.{take-all}
 use denote.Ref.{now}
 use borrow.Author.Needs.{needs}
 use Rattle.octets.specs.Lists.{overwrite}
-use Rattle.text.specs.Hexadecimal.{hexadecimal}
-use Rattle.text.proofs.Pairs.{table-pair, pair-stored}
+use Rattle.text.specs.Hexadecimal.{hexDigits, hexadecimal}
+use Rattle.text.proofs.Pairs.{pair-stored}
 use Rattle.text.proofs.hexadecimal.put_pairs.Statement.{statement}
 use Rattle.text.proofs.hexadecimal.put_pairs.Tie as tie
 
 abbrev Inv-loop : tie.InvT-loop
-Inv-loop out₀ table bytes i₀ out i = (i ≤ length bytes) × (out ≡ overwrite out₀ 0 (hexadecimal (take i bytes))) × (length out ≡ length out₀)
+Inv-loop out₀ bytes digits i₀ out i = (i ≤ length bytes) × (out ≡ overwrite out₀ 0 (hexadecimal (take i bytes))) × (length out ≡ length out₀)
 
 abbrev μ-loop : tie.MeasureT-loop
-μ-loop out₀ table bytes i₀ out i = length bytes - i
+μ-loop out₀ bytes digits i₀ out i = length bytes - i
 
 loop-holds : tie.Need-loop-holds Inv-loop μ-loop
 unfolding hexadecimal
 loop-holds c = (omega arith, refl, refl)
 
-shared-slice-read-wide : tie.Need-shared-slice-read-wide Inv-loop μ-loop
-shared-slice-read-wide c = omega arith
+shared-slice-read-hex-pair : tie.Need-shared-slice-read-hex-pair Inv-loop μ-loop
+shared-slice-read-hex-pair c = omega arith
 
-wide-requires : tie.Need-wide-requires Inv-loop μ-loop
-wide-requires c κs = search needs
+hex-pair-requires : tie.Need-hex-pair-requires Inv-loop μ-loop
+unfolding hexDigits
+hex-pair-requires c κs = search needs
 
-mul-place : tie.Need-mul-place Inv-loop μ-loop
-mul-place c = omega arith
-
-element-copy-out-high : tie.Need-element-copy-out-high Inv-loop μ-loop
-element-copy-out-high c = omega arith
-
-add-low : tie.Need-add-low Inv-loop μ-loop
-add-low c = omega arith
-
-element-copy-out-low : tie.Need-element-copy-out-low Inv-loop μ-loop
-element-copy-out-low c = omega arith
+array-read-out : tie.Need-array-read-out Inv-loop μ-loop
+array-read-out c = search needs
 
 mul-out : tie.Need-mul-out Inv-loop μ-loop
 mul-out c = omega arith
 
 slice-write-out : tie.Need-slice-write-out Inv-loop μ-loop
 slice-write-out c = omega arith
+
+array-read-out-2 : tie.Need-array-read-out-2 Inv-loop μ-loop
+array-read-out-2 c = search needs
 
 mul-out-2 : tie.Need-mul-out-2 Inv-loop μ-loop
 mul-out-2 c = omega arith
@@ -64,18 +59,14 @@ loop-less c = omega arith
 
 loop-again : tie.Need-loop-again Inv-loop μ-loop
 loop-again c =
-    let wide = c .before .before .wide in
-    let at-loop = c .before .before .before .before .before in
+    let at-loop = c .before .before .before .before in
     let e = at-loop .before .before .before in
-    let table = now (e .args .table) in
     let bytes = now (e .args .bytes) in
-    let i = at-loop .loop .i in
-    let x = getD table (2 * wide .result) 0 in
-    let y = getD table (2 * wide .result + 1) 0 in
-    let pair = table-pair table (wide .result) (getD bytes i 0) (e .pre .0) (wide .ensures .0) (wide .ensures .1) in (
+    let pair = c .hex-pair .result in
+    let i = at-loop .loop .i in (
       omega arith,
-      ap (λ (o : List ℕ). set (set o (2 * i) x) (2 * i + 1) y) (at-loop .loop .inv .1)
-          ∙ pair-stored (now (e .args .out)) bytes i x y (omega arith) (e .pre .1) pair,
+      ap (λ (o : List ℕ). set (set o (2 * i) (getD pair 0 0)) (2 * i + 1) (getD pair 1 0)) (at-loop .loop .inv .1)
+          ∙ pair-stored (now (e .args .out)) bytes pair i (omega arith) (e .pre) (c .hex-pair .ensures),
       simp length-set (omega arith),
     )
 
@@ -96,14 +87,12 @@ put-pairs-spec =
     Inv-loop
     μ-loop
     loop-holds
-    shared-slice-read-wide
-    wide-requires
-    mul-place
-    element-copy-out-high
-    add-low
-    element-copy-out-low
+    shared-slice-read-hex-pair
+    hex-pair-requires
+    array-read-out
     mul-out
     slice-write-out
+    array-read-out-2
     mul-out-2
     add-out
     slice-write-out-2
