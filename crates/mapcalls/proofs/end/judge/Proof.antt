@@ -11,7 +11,11 @@ use Rattle.bytemap.specs.End.{endSays}
 use Rattle.mapcalls.proofs.end.judge.Statement.{statement}
 use Rattle.mapcalls.proofs.end.judge.Tie as tie
 
-whole : (c : tie.Else1) → let a = c .before .before .before .before .before .args in holds (mapOf (a .flag) (now (a .words)) (now (a .values))) ≡ true
+-- where the map is whole: what the judge was given, and that it holds together
+abbrev given : tie.Else1 → tie.Start
+given c = c .before .before .before .before .before
+
+whole : (c : tie.Else1) → let a = given c .args in holds (mapOf (a .flag) (now (a .words)) (now (a .values))) ≡ true
 whole c = sym (c .before .holds .ensures) ∙ not-false _ (c .if1 .left)
 
 returns : tie.Need-returns
@@ -20,7 +24,7 @@ returns c = rw (sym (c .before .holds .ensures) ∙ not-true _ (c .if1 .taken))
 
 returns-2 : tie.Need-returns-2
 unfolding endSays verdict
-returns-2 c = rw (whole (c .before), le-ltb 0 (c .before .before .before .before .before .before .args .flag) (omega arith))
+returns-2 c = rw (whole (c .before), le-ltb 0 (given (c .before) .args .flag) (omega arith))
 
 returns-3 : tie.Need-returns-3
 unfolding endSays verdict
@@ -29,7 +33,7 @@ returns-3 c =
     let whole-here = opened .before in
     rw (
       whole whole-here,
-      lt-ltb 0 (opened .before .before .before .before .before .before .args .flag) (omega arith),
+      lt-ltb 0 (given whole-here .args .flag) (omega arith),
       whole-here .before .before .runs .ensures,
       c .ones .ensures,
     )
