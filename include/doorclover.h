@@ -10,11 +10,14 @@
  * Words
  *   window       host memory that is lent to a call: bytes, addressed from 0
  *   command      one of the numbers 0 to 7, opened by begin and closed by end
- *   span         the bytes of the window from an address on, as many as a length says
+ *   span         the bytes of the window from an address on, as many as a length says; those that a
+ *                walk gives are of host memory, in the window or not
  *   record       a span whose bytes an open command holds
  *   state        which commands are open, and the records of each
  *   store        the held bytes; command c has the 4,096 from 4,096 * c on
  *   destination  where a fetch delivers
+ *   page         4,096 bytes of memory, from a multiple of 4,096 on
+ *   scratch      where a walk has the page entries that it fetches, until it returns
  *   map          a byte map: a smaller engine, with one command and no store (see below)
  *
  * What every call promises
@@ -23,6 +26,9 @@
  *     other members of the reply are 0, and no byte of state, store, map, window, destination or
  *     output has changed. (A journal runs many calls; this holds for each of them. A map's fetch and
  *     own write judge 30 in the place of 7, and so give it before 9.)
+ *   - A walk, which makes fetches itself, is the exception. It judges in an order of its own. Refused, it
+ *     leaves window, addresses and lengths as they were, but what fetches of it that were accepted by then
+ *     hold stays held; and all of its scratch is zero, unless it was refused before PRP1 was judged.
  *   - Numbers may have any value. What is out of range is refused, and address + length is judged
  *     as the true sum, which does not wrap.
  *   - A state may hold any words, a store any bytes, and a map any words and bytes. A state's words,
@@ -34,12 +40,13 @@
  *     memory is the caller's. The archive needs memcpy and memset from the link, and nothing else.
  *
  * What the caller answers for, since C cannot check it
- *   - Each pointer is good for the length beside it, a state for all its words, and the parts of a map
- *     for one, 64 and 4,096 elements. A null pointer may stand where the length is 0, and only there; a
- *     state is never null, nor is a part of a map.
+ *   - Each pointer is good for the length beside it (for so many places, of a walk's addresses and
+ *     lengths), a state for all its words, and the parts of a map for one, 64 and 4,096 elements. A
+ *     null pointer may stand where the length is 0, and only there; a state is never null, nor is a
+ *     part of a map.
  *   - No two arguments of a call share a byte.
- *   - A state is aligned for uint16_t, and the first two parts of a map are for uint64_t. Bytes may
- *     lie anywhere.
+ *   - A state is aligned for uint16_t, the first two parts of a map and a walk's addresses for uint64_t,
+ *     and its lengths for uint32_t. Bytes may lie anywhere.
  *   - Until a call returns, nobody else (another core, an interrupt, a DMA engine) writes what is lent
  *     to it; of the window see below. Two calls on one state, one store or one map must not overlap in
  *     time; calls on different ones may.
@@ -59,7 +66,7 @@
  * stack, and is not proved. What your memcpy and memset take comes on top.
  *     fresh   0      begin 128      host write  56      frame read   168
  *     show   88      fetch 520      own write  584      frame write   48
- *                    end   176                          journal     3064
+ *                    end   176      walk       696      journal     3064
  *     of the byte map: fresh 16, begin 144, fetch 424, own write 424, end 176
  * DOORCLOVER_STACK and DOORCLOVER_JOURNAL_STACK are these with some room.
  *
@@ -99,6 +106,11 @@ extern "C" {
 #define DOORCLOVER_WINDOW   65536u  /* the longest window, in bytes */
 #define DOORCLOVER_STORE    32768u  /* the one length of the store, in bytes */
 
+#define DOORCLOVER_PAGE          4096u   /* bytes of a page */
+#define DOORCLOVER_WALK_TRANSFER 65536u  /* the most bytes of a walk's transfer */
+#define DOORCLOVER_WALK_SPANS    17u     /* the most spans of a walk, and the fewest places for them */
+#define DOORCLOVER_WALK_SCRATCH  128u    /* the fewest bytes of its scratch: 8 * 16 */
+
 #define DOORCLOVER_COMMAND_WORDS 129u   /* words of a command: 1 + 2 * 64 */
 #define DOORCLOVER_STATE_WORDS   1032u  /* words of a state: 8 * 129 */
 #define DOORCLOVER_FRAME_HEAD    5u     /* bytes of a frame before its data */
@@ -125,7 +137,7 @@ enum {
     DOORCLOVER_WINDOW_TOO_LONG  = 7,   /* window longer than 65,536 */
     DOORCLOVER_STORE_WRONG_SIZE = 8,   /* store not 32,768 bytes */
     DOORCLOVER_OUTSIDE_WINDOW   = 9,   /* address + length above the window's length */
-    DOORCLOVER_BUFFER_TOO_SHORT = 10,  /* destination or output too short */
+    DOORCLOVER_BUFFER_TOO_SHORT = 10,  /* destination or output too short, or what a walk is lent */
     DOORCLOVER_ADDRESS_TOO_HIGH = 11,  /* frame writer: address above 65,535 */
 
     /* because of the state */
@@ -137,7 +149,11 @@ enum {
     DOORCLOVER_NO_SUCH_RECORD       = 25,  /* show: the index is not below the number of records */
 
     /* because of the input, by the byte map alone */
-    DOORCLOVER_WINDOW_BEYOND_MAP = 30  /* window longer than 4,096 */
+    DOORCLOVER_WINDOW_BEYOND_MAP = 30,  /* window longer than 4,096 */
+
+    /* because of the input, by a walk alone */
+    DOORCLOVER_TRANSFER_OUT_OF_RANGE = 31,  /* transfer of no bytes, or of more than 65,536 */
+    DOORCLOVER_ENTRY_MISALIGNED      = 32   /* PRP1, PRP2 or an entry is not the multiple it must be */
 };
 
 /* The kinds of a step frame. */
@@ -214,6 +230,11 @@ typedef struct doorclover_written {
     size_t fresh;  /* how many of their addresses the command had not held before; 0 of a host write */
 } doorclover_written;
 
+typedef struct doorclover_walked {
+    doorclover_status status;
+    size_t spans;  /* how many there are, in the front of addresses and lengths */
+} doorclover_walked;
+
 typedef struct doorclover_shown {
     doorclover_status status;
     uint16_t start;
@@ -274,7 +295,8 @@ DOORCLOVER_USE_REPLY doorclover_fetched doorclover_fetch(
 
 /*
  * Closes an open command, drops its records, and zeroes its part of the store. From the fresh state on,
- * the bytes of the reply are the sum of what its fetches and own writes replied as fresh.
+ * the bytes of the reply are the sum of what its fetches and own writes replied as fresh, and of the bytes
+ * that its walks, refused ones too, read from the window.
  * Refused with 6, 8, 20, 21.
  */
 DOORCLOVER_USE_REPLY doorclover_ended doorclover_end(
@@ -305,6 +327,44 @@ DOORCLOVER_USE_REPLY doorclover_written doorclover_own_write(
     uint8_t *window, size_t window_size,
     size_t command, size_t address,
     const uint8_t *bytes, size_t size);
+
+/*
+ * Walks the PRP entries of an NVM Express command: gives, page by page, the spans of host memory that a
+ * transfer of 1 to 65,536 bytes takes. PRP1 is where the first one starts, a multiple of 4, which may be
+ * inside a page. Every further page of the transfer has an entry, its address, a multiple of 4,096:
+ *
+ *     for no further page   PRP2 is not looked at.
+ *     for one               PRP2 is the entry.
+ *     for two or more       PRP2 is where a list of entries starts in the window, a multiple of 8. An
+ *                           entry has 8 bytes, least byte first. If more are needed than fit up to the
+ *                           end of the list's page, the last one there leads onward: it is no page of
+ *                           the transfer but the address of the next list, a multiple of 4,096 too.
+ *
+ * The entries needed of a list are one fetch of the command, as by doorclover_fetch: bytes that it holds
+ * are replayed, and the others are read from the window and held from now on. So the same walk by the same
+ * command gives the same spans again, whatever the host has written over the entries. No other byte of the
+ * window is read. The pages themselves may lie anywhere, in the window or not, and 0 is an address too.
+ *
+ * The reply is the number of spans. Span i has its address in addresses[i] and its length in lengths[i].
+ * The lengths add up to the transfer, and neighbours stay two spans. Places behind the spans do not change.
+ *
+ * Refused with 31, 10, 6, 7, 8, 20, 21, the first of them in this order that applies, and then nothing has
+ * changed. 10 stands for a scratch of fewer than 128 bytes, and for addresses or lengths of fewer than 17
+ * places, whatever the transfer needs.
+ * Else refused with 32, 9, 23, 24, as the walk comes to PRP1, PRP2 and the lists: 32 at what is not the
+ * multiple that it must be, and one of the others if the fetch of a list is refused with it. All entries of
+ * a list, an onward one last, are judged before the next list is fetched. Then addresses and lengths are as
+ * they were, and the entries that were fetched stay held.
+ * Once PRP1 has been judged, refused or done, all of the scratch is zero at return.
+ */
+DOORCLOVER_USE_REPLY doorclover_walked doorclover_walk(
+    doorclover_state *state,
+    uint8_t *store, size_t store_size,
+    const uint8_t *window, size_t window_size,
+    uint8_t *scratch, size_t scratch_size,
+    uint64_t *addresses, size_t address_places,
+    uint32_t *lengths, size_t length_places,
+    size_t command, uint64_t prp1, uint64_t prp2, size_t transfer);
 
 /*
  * Gives a record of an open command, counted from 0.
@@ -416,6 +476,8 @@ DOORCLOVER_ASSERT(sizeof(size_t) == 8 && sizeof(void *) == 8);
 DOORCLOVER_ASSERT(DOORCLOVER_COMMAND_WORDS == 1 + 2 * DOORCLOVER_RECORDS);
 DOORCLOVER_ASSERT(DOORCLOVER_STATE_WORDS == DOORCLOVER_COMMANDS * DOORCLOVER_COMMAND_WORDS);
 DOORCLOVER_ASSERT(DOORCLOVER_STORE == DOORCLOVER_COMMANDS * DOORCLOVER_HELD);
+DOORCLOVER_ASSERT(DOORCLOVER_WALK_SPANS == DOORCLOVER_WALK_TRANSFER / DOORCLOVER_PAGE + 1);
+DOORCLOVER_ASSERT(DOORCLOVER_WALK_SCRATCH == 8 * (DOORCLOVER_WALK_SPANS - 1));
 DOORCLOVER_ASSERT(sizeof(doorclover_state) == 2064);
 DOORCLOVER_ASSERT(DOORCLOVER_ALIGN(doorclover_state) == 2);
 DOORCLOVER_ASSERT(DOORCLOVER_MAP_ADDRESSES == 64 * DOORCLOVER_MAP_WORDS);
@@ -427,6 +489,7 @@ DOORCLOVER_ASSERT(sizeof(doorclover_fetched) == 24 && offsetof(doorclover_fetche
 DOORCLOVER_ASSERT(sizeof(doorclover_ended) == 24 && offsetof(doorclover_ended, bytes) == 16);
 DOORCLOVER_ASSERT(sizeof(doorclover_written) == 24 && offsetof(doorclover_written, bytes) == 8);
 DOORCLOVER_ASSERT(offsetof(doorclover_written, fresh) == 16);
+DOORCLOVER_ASSERT(sizeof(doorclover_walked) == 16 && offsetof(doorclover_walked, spans) == 8);
 DOORCLOVER_ASSERT(sizeof(doorclover_shown) == 8 && offsetof(doorclover_shown, length) == 6);
 DOORCLOVER_ASSERT(sizeof(doorclover_step) == 48 && offsetof(doorclover_step, taken) == 40);
 DOORCLOVER_ASSERT(sizeof(doorclover_framed) == 16 && offsetof(doorclover_framed, length) == 8);

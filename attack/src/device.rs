@@ -3,9 +3,10 @@
 
 use boundary::{RawWindow, Words, WORDS};
 
-use crate::host::{LIST, LIST_LENGTH};
+use crate::lists::{Spans, LIST, PAGE_LIST, PRP1, SPANS, TRANSFER};
+use crate::prey::Prey;
 
-/// The command that works on the list.
+/// The command that works on the lists.
 pub const COMMAND: usize = 3;
 
 /// The state and the buffers of the device, which the host cannot reach, and
@@ -14,6 +15,7 @@ pub struct Device {
     state: Words,
     store: Vec<u8>,
     destination: Vec<u8>,
+    scratch: Vec<u8>,
     window: RawWindow,
 }
 
@@ -25,6 +27,7 @@ impl Device {
             state: [0; WORDS],
             store: vec![0; 32_768],
             destination: vec![0; 4_096],
+            scratch: vec![0; 128],
             window,
         }
     }
@@ -39,7 +42,8 @@ impl Device {
         assert_eq!(reply.status, 0, "end {command}");
     }
 
-    /// Fetches so many bytes from the list's count on, and gives the count.
+    /// Fetches so many bytes from the retire list's count on, and gives the
+    /// count.
     pub fn fetch(&mut self, command: usize, length: usize) -> u8 {
         // SAFETY: the window is memory of the process that is never freed, and
         // nothing of the device lies in it. It may be written meanwhile, which
@@ -59,30 +63,52 @@ impl Device {
         self.destination[0]
     }
 
-    /// One command checks the count and then takes the whole list. The answer
-    /// is the count that was checked and the one that is used.
-    pub fn one_command(&mut self) -> [u8; 2] {
+    /// Walks the page list.
+    pub fn walk(&mut self, command: usize) -> Spans {
+        let mut spans = Spans::NONE;
+        // SAFETY: as above.
+        let reply = unsafe {
+            boundary::walk_in(
+                &mut self.state,
+                &mut self.store,
+                self.window,
+                &mut self.scratch,
+                &mut spans.addresses,
+                &mut spans.lengths,
+                command,
+                PRP1,
+                PAGE_LIST as u64,
+                TRANSFER,
+            )
+        };
+        assert_eq!((reply.status, reply.spans), (0, SPANS), "walk {command}");
+        spans
+    }
+
+    /// One command checks and then uses. The answer is what was checked and what
+    /// is used.
+    pub fn one_command<P: Prey>(&mut self) -> [P::Look; 2] {
         self.begin(COMMAND);
-        let checked = self.fetch(COMMAND, 1);
-        let used = self.fetch(COMMAND, LIST_LENGTH);
+        let checked = P::check(self);
+        let used = P::take(self);
         self.end(COMMAND);
         [checked, used]
     }
 
     /// The same with an end and a begin in between, after which the cache owes
     /// nothing.
-    pub fn two_commands(&mut self) -> [u8; 2] {
-        let checked = self.check_only();
+    pub fn two_commands<P: Prey>(&mut self) -> [P::Look; 2] {
+        let checked = self.check_only::<P>();
         self.begin(COMMAND);
-        let used = self.fetch(COMMAND, LIST_LENGTH);
+        let used = P::take(self);
         self.end(COMMAND);
         [checked, used]
     }
 
     /// The check alone.
-    pub fn check_only(&mut self) -> u8 {
+    pub fn check_only<P: Prey>(&mut self) -> P::Look {
         self.begin(COMMAND);
-        let checked = self.fetch(COMMAND, 1);
+        let checked = P::check(self);
         self.end(COMMAND);
         checked
     }

@@ -7,35 +7,30 @@
 //! outside the proof. In the code one function reads the window, into the
 //! store, and every fetch is delivered from the store: what that copy left is
 //! what is served until the command ends, however often the copy itself
-//! looked. But its loads are plain ones, and a compiler that takes the window
-//! to be unshared may put a second load of it in the place of a load of the
-//! store. So whoever lends a live window has duties: it is raw memory and never
-//! a Rust reference, since a reference promises that nobody writes; the
-//! compiled code that is shipped is shown to deliver from the store alone, by
-//! a count of its loads (`tests/loads`) or a trial such as this; and where that
-//! is not enough, the boundary copies what a call may read by volatile loads
-//! and lends the copy.
-//! The state, the store and the destination must be out of the host's reach.
+//! looked. The lists of a walk are such fetches. But the copy's loads are plain
+//! ones, and a compiler that takes the window to be unshared may put a second
+//! load of it in the place of a load of the store. So whoever lends a live
+//! window has duties: it is raw memory and never a Rust reference, since a
+//! reference promises that nobody writes; the compiled code that is shipped is
+//! shown to deliver from the store alone, by a count of its loads
+//! (`tests/loads`) or a trial such as this; and where that is not enough, the
+//! boundary copies what a call may read by volatile loads and lends the copy.
+//! The state, the store, the destination, and the scratch and the lists of a walk
+//! must be out of the host's reach.
 
 use std::ptr;
+use std::slice;
 use std::sync::atomic::{AtomicBool, AtomicU64, Ordering};
 use std::thread;
 
 use boundary::RawWindow;
 
-/// Where the list is: its count, and then its tags.
-pub const LIST: usize = 64;
-
-/// The count that passes a check, and the one that takes live data.
-pub const COUNTS: [u8; 2] = [4, 40];
-
-/// Two bytes for each of 40 tags behind the count.
-pub const LIST_LENGTH: usize = 1 + 2 * COUNTS[1] as usize;
+use crate::lists::{self, Changed, ENTRY};
 
 /// The bytes of the window.
 const LENGTH: usize = 16_384;
 
-/// So many times is the count written before the host looks up.
+/// So many times is the byte written before the host looks up.
 const BURST: u64 = 64;
 
 /// A window that lives as long as the program and that no reference stands
@@ -49,11 +44,12 @@ unsafe impl Send for SharedWindow {}
 unsafe impl Sync for SharedWindow {}
 
 impl SharedWindow {
-    /// A window with a list of four in it, and tags behind it.
+    /// A window with the lists in it.
     pub fn new() -> SharedWindow {
-        let mut bytes: Vec<u8> = (0..LENGTH).map(|place| place as u8).collect();
-        bytes[LIST] = COUNTS[0];
-        let start = Box::into_raw(bytes.into_boxed_slice()).cast();
+        let words = vec![0_u64; LENGTH / ENTRY].into_boxed_slice();
+        let start = Box::into_raw(words).cast();
+        // SAFETY: the memory has that length, and nobody else has it yet.
+        lists::put(unsafe { slice::from_raw_parts_mut(start, LENGTH) });
         SharedWindow(RawWindow {
             start,
             length: LENGTH,
@@ -64,24 +60,34 @@ impl SharedWindow {
         self.0
     }
 
-    /// The count as it stands now.
-    pub fn read_count(self) -> u8 {
-        // SAFETY: the list lies in the window, which is never freed.
-        unsafe { ptr::read_volatile(self.0.start.add(LIST)) }
+    /// A byte as it stands now.
+    pub fn read(self, address: usize) -> u8 {
+        assert!(address < LENGTH);
+        // SAFETY: the byte lies in the window, which is never freed.
+        unsafe { ptr::read_volatile(self.0.start.add(address)) }
     }
 
-    fn write_count(self, count: u8) {
+    /// The same of a page entry.
+    pub fn read_entry(self, address: usize) -> u64 {
+        assert!(address < LENGTH && address % ENTRY == 0);
+        // SAFETY: the window is made of words of this size.
+        let entry = unsafe { ptr::read_volatile(self.0.start.add(address).cast()) };
+        u64::from_le(entry)
+    }
+
+    fn write(self, address: usize, byte: u8) {
+        assert!(address < LENGTH);
         // SAFETY: as above.
-        unsafe { ptr::write_volatile(self.0.start.add(LIST), count) }
+        unsafe { ptr::write_volatile(self.0.start.add(address), byte) }
     }
 
-    /// Does the work while a second thread writes one count after the other
-    /// as fast as it can. The answer has the number of those writes.
-    pub fn attacked<T>(self, work: impl FnOnce() -> T) -> (T, u64) {
+    /// Does the work while a second thread writes one value of a byte after the
+    /// other as fast as it can. The answer has the number of those writes.
+    pub fn attacked<T>(self, changed: Changed, work: impl FnOnce() -> T) -> (T, u64) {
         let stop = AtomicBool::new(false);
         let writes = AtomicU64::new(0);
         let result = thread::scope(|scope| {
-            scope.spawn(|| self.flip_until(&stop, &writes));
+            scope.spawn(|| self.flip_until(changed, &stop, &writes));
             while writes.load(Ordering::Relaxed) == 0 {
                 thread::yield_now();
             }
@@ -92,11 +98,11 @@ impl SharedWindow {
         (result, writes.into_inner())
     }
 
-    fn flip_until(self, stop: &AtomicBool, writes: &AtomicU64) {
+    fn flip_until(self, changed: Changed, stop: &AtomicBool, writes: &AtomicU64) {
         while !stop.load(Ordering::Relaxed) {
             for _ in 0..BURST / 2 {
-                self.write_count(COUNTS[0]);
-                self.write_count(COUNTS[1]);
+                self.write(changed.address, changed.values[0]);
+                self.write(changed.address, changed.values[1]);
             }
             writes.fetch_add(BURST, Ordering::Relaxed);
         }

@@ -1,18 +1,24 @@
 //! `attack`: the host changes a retire list between the check of its count
-//! and its use.
+//! and its use, and a page list between two walks of it.
 //!
+//! - [`lists`]: both lists, and what the host changes of them.
 //! - [`host`]: the window, and the thread that writes it.
 //! - [`device`]: the calls, in the proved library.
+//! - [`prey`]: what is looked at, and how.
 //! - [`race`]: the attack through the cache and around it.
-//! - [`pages`]: held spans while the window cannot be read.
+//! - [`pages`]: what is held while the window cannot be read.
 
 mod device;
 mod host;
+mod lists;
 mod pages;
+mod prey;
 mod race;
 
 use std::env;
 use std::process::ExitCode;
+
+use prey::{Count, Pages, Prey};
 
 const USAGE: &str = "\
 usage: attack [--runs N]
@@ -20,12 +26,15 @@ usage: attack [--runs N]
 A second thread writes 4 and 40 over the count of a retire list as fast as it
 can. Each of N runs (100000) checks the count and then uses the list in three
 ways: by two plain reads, by two commands of the cache, and by one command.
-There are more runs if the counts differ too seldom in the first two ways. Then
-a span is fetched while the window cannot be read.
+Then it writes two addresses over an entry of a page list, and each of N runs
+walks the list to check its spans and again to use them, in the same three ways.
+There are more runs if counts or spans differ too seldom in the first two ways.
+Then a span is fetched and the page list is walked while the window cannot be
+read.
 
-Status: 0 if checked and used count differ at times in the first two ways and
-never in the third, and held spans are served without the window; else 1. 2 if
-the words are not as above.
+Status: 0 if what is checked and what is used differ at times in the first two
+ways and never in the third, and what is held is served without the window; else
+1. 2 if the words are not as above.
 ";
 
 fn main() -> ExitCode {
@@ -33,10 +42,12 @@ fn main() -> ExitCode {
         eprint!("{USAGE}");
         return ExitCode::from(2);
     };
-    let seen = race::run(runs);
-    print!("{seen}");
-    let served = served_without_a_window();
-    if seen.is_good() && served {
+    let results = [
+        is_withstood::<Count>(runs),
+        is_withstood::<Pages>(runs),
+        is_served_without_a_window(),
+    ];
+    if results == [true; 3] {
         ExitCode::SUCCESS
     } else {
         println!("failed");
@@ -44,8 +55,15 @@ fn main() -> ExitCode {
     }
 }
 
+/// Makes the runs, and tells what was seen.
+fn is_withstood<P: Prey>(runs: u64) -> bool {
+    let seen = race::run::<P>(runs);
+    print!("{}", seen.told(P::WORDS));
+    seen.is_good()
+}
+
 /// Makes the trials with a window that is closed, and tells of each.
-fn served_without_a_window() -> bool {
+fn is_served_without_a_window() -> bool {
     println!("a window that cannot be read:");
     let mut good = true;
     for trial in pages::trials() {

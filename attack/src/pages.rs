@@ -1,21 +1,22 @@
-//! A held span is served while the window cannot be read.
+//! What is held is served while the window cannot be read.
 //!
-//! The window is a page of its own, which is closed after a span of it was
+//! The window is a page of its own, which is closed after the lists in it were
 //! fetched. From then on a read of it is a fault. The fault handler counts it
 //! and opens the page, so that the call goes on.
 
 use std::ffi::c_void;
 use std::ptr;
+use std::slice;
 use std::sync::atomic::{AtomicPtr, AtomicUsize, Ordering};
 
 use boundary::RawWindow;
 
 use crate::device::{Device, COMMAND};
-use crate::host::{COUNTS, LIST, LIST_LENGTH};
+use crate::lists::{self, LIST_LENGTH};
 
 const PAGE: usize = 4_096;
 
-/// A command that holds nothing of the list.
+/// A command that holds nothing of the lists.
 const OTHER: usize = 4;
 
 // The values of Linux on x86-64.
@@ -42,50 +43,63 @@ extern "C" {
 static READS: AtomicUsize = AtomicUsize::new(0);
 static WINDOW: AtomicPtr<c_void> = AtomicPtr::new(ptr::null_mut());
 
-/// A fetch after the window was closed, the whole list being held.
+/// A call after the window was closed, both lists being held.
 pub struct Trial {
     pub name: &'static str,
     command: usize,
-    length: usize,
+    call: Call,
     /// How often it reads the window.
     reads: usize,
 }
 
-/// Spans that are held, and beside them two that are not, so that it is seen
+/// A fetch of so many bytes of the retire list, or a walk of the page list.
+#[derive(Clone, Copy)]
+enum Call {
+    Fetch(usize),
+    Walk,
+}
+
+/// Lists that are held, and beside them some that are not, so that it is seen
 /// that a closed window is noticed.
-pub fn trials() -> [Trial; 4] {
-    let trial = |name, command, length, reads| Trial {
+pub fn trials() -> [Trial; 6] {
+    let trial = |name, command, call, reads| Trial {
         name,
         command,
-        length,
+        call,
         reads,
     };
+    let (whole, longer) = (Call::Fetch(LIST_LENGTH), Call::Fetch(LIST_LENGTH + 1));
     [
-        trial("the whole span is held", COMMAND, LIST_LENGTH, 0),
-        trial("a part of it", COMMAND, 1, 0),
-        trial("one byte more", COMMAND, LIST_LENGTH + 1, 1),
-        trial("held by another command", OTHER, LIST_LENGTH, 1),
+        trial("the whole span is held", COMMAND, whole, 0),
+        trial("a part of it", COMMAND, Call::Fetch(1), 0),
+        trial("one byte more", COMMAND, longer, 1),
+        trial("held by another command", OTHER, whole, 1),
+        trial("the page list is held", COMMAND, Call::Walk, 0),
+        trial("held by another command", OTHER, Call::Walk, 1),
     ]
 }
 
 impl Trial {
     /// Makes the calls. An error says in what they were not as they must be.
     pub fn run(&self) -> Result<(), String> {
-        let window = window_with_the_list();
+        let window = window_with_the_lists();
         let mut device = Device::new(window);
         device.begin(COMMAND);
         device.begin(OTHER);
-        let first = device.fetch(COMMAND, LIST_LENGTH);
-        let (second, reads) = with_the_window_closed(window, || {
-            let count = device.fetch(self.command, self.length);
+        let (count, spans) = (device.fetch(COMMAND, LIST_LENGTH), device.walk(COMMAND));
+        let (is_same, reads) = with_the_window_closed(window, || {
+            let is_same = match self.call {
+                Call::Fetch(length) => device.fetch(self.command, length) == count,
+                Call::Walk => device.walk(self.command) == spans,
+            };
             device.end(COMMAND);
-            count
+            is_same
         });
         if reads != self.reads {
             return Err(format!("{reads} reads of a closed window"));
         }
-        if [first, second] != [COUNTS[0]; 2] {
-            return Err(format!("the count is {first} and then {second}"));
+        if !is_same {
+            return Err("it gives something else than before".to_string());
         }
         Ok(())
     }
@@ -106,14 +120,14 @@ fn with_the_window_closed<T>(window: RawWindow, work: impl FnOnce() -> T) -> (T,
     (result, READS.load(Ordering::SeqCst))
 }
 
-/// A new page with the list in it, which is kept until the program ends.
-fn window_with_the_list() -> RawWindow {
-    // SAFETY: asks for new memory; the list lies in its first bytes.
+/// A new page with the lists in it, which is kept until the program ends.
+fn window_with_the_lists() -> RawWindow {
+    // SAFETY: asks for new memory of one page, which nobody else has yet.
     unsafe {
         let at = mmap(ptr::null_mut(), PAGE, READ_WRITE, PRIVATE_ANONYMOUS, -1, 0);
         assert!(at as isize != -1, "there is no memory");
         let start: *mut u8 = at.cast();
-        start.add(LIST).write(COUNTS[0]);
+        lists::put(slice::from_raw_parts_mut(start, PAGE));
         RawWindow {
             start,
             length: PAGE,

@@ -1,11 +1,11 @@
-//! The race: how often a count that was checked is not the count that is used.
+//! The race: how often what was checked is not what is used.
 
-use std::fmt;
 use std::hint::black_box;
 use std::time::{Duration, Instant};
 
 use crate::device::Device;
-use crate::host::{SharedWindow, COUNTS};
+use crate::host::SharedWindow;
+use crate::prey::{Prey, Words};
 
 /// The runs go on until the attack has worked so often in each way around the
 /// cache, since through the cache it then had as many chances,
@@ -18,18 +18,17 @@ const PATIENCE: Duration = Duration::from_secs(20);
 #[derive(Default)]
 pub struct Seen {
     pub runs: u64,
-    /// The turns of idle work between two plain reads.
+    /// The turns of idle work between two plain looks.
     pub distance: u64,
     pub host_writes: u64,
-    /// Two plain reads that differ.
+    /// Two plain looks that differ.
     pub plain: u64,
-    /// Fetches by two commands that differ.
+    /// Looks by two commands that differ.
     pub two_commands: u64,
-    /// Fetches by one command that differ.
+    /// Looks by one command that differ.
     pub cache: u64,
-    /// Runs of one command in which the count was the small and the large one.
-    pub small: u64,
-    pub large: u64,
+    /// Runs of one command in which each of the host's two values was used.
+    pub used: [u64; 2],
 }
 
 impl Seen {
@@ -42,17 +41,35 @@ impl Seen {
     fn worked_often(&self) -> bool {
         self.plain >= OFTEN && self.two_commands >= OFTEN
     }
+
+    /// The same in words.
+    pub fn told(&self, words: Words) -> String {
+        let part = |count: u64| 100.0 * count as f64 / self.runs.max(1) as f64;
+        let [one, other] = words.values;
+        let mut text = format!(
+            "runs: {}\n\
+             writes of the {} by the host: {}\n\
+             one command saw {one} in {} runs and {other} in {}\n\
+             checked and used {} differ:\n",
+            self.runs, words.written, self.host_writes, self.used[0], self.used[1], words.compared
+        );
+        let counts = [self.plain, self.two_commands, self.cache];
+        for (way, count) in words.ways.into_iter().zip(counts) {
+            text += &format!("  {way}: {count} ({:.2} %)\n", part(count));
+        }
+        text
+    }
 }
 
 /// Makes at least so many runs under attack.
-pub fn run(runs: u64) -> Seen {
+pub fn run<P: Prey>(runs: u64) -> Seen {
     let window = SharedWindow::new();
-    let distance = turns_of_a_fetch(window);
-    let (seen, writes) = window.attacked(|| {
+    let distance = turns_of_a_look::<P>(window);
+    let (seen, writes) = window.attacked(P::CHANGED, || {
         let mut trial = Trial::new(window, distance);
         let start = Instant::now();
         while trial.seen.runs < runs || (!trial.seen.worked_often() && start.elapsed() < PATIENCE) {
-            trial.once();
+            trial.once::<P>();
         }
         trial.seen
     });
@@ -81,18 +98,19 @@ impl Trial {
         }
     }
 
-    /// Checks and uses the count in each of the three ways.
-    fn once(&mut self) {
+    /// Checks and uses in each of the three ways.
+    fn once<P: Prey>(&mut self) {
         self.seen.runs += 1;
-        let checked = self.window.read_count();
+        let checked = P::read(self.window);
         idle(self.seen.distance);
-        self.seen.plain += u64::from(self.window.read_count() != checked);
-        let [checked, used] = self.device.two_commands();
+        self.seen.plain += u64::from(P::read(self.window) != checked);
+        let [checked, used] = self.device.two_commands::<P>();
         self.seen.two_commands += u64::from(checked != used);
-        let [checked, used] = self.device.one_command();
+        let [checked, used] = self.device.one_command::<P>();
         self.seen.cache += u64::from(checked != used);
-        self.seen.small += u64::from(used == COUNTS[0]);
-        self.seen.large += u64::from(used == COUNTS[1]);
+        for (value, count) in P::CHANGED.values.iter().zip(&mut self.seen.used) {
+            *count += u64::from(P::value(used) == *value);
+        }
     }
 }
 
@@ -103,13 +121,16 @@ fn idle(turns: u64) {
     }
 }
 
-/// So many turns of idle work take as long as the second fetch of a command:
-/// the runs with it less those without it.
-fn turns_of_a_fetch(window: SharedWindow) -> u64 {
+/// So many turns of idle work take as long as the second look of a command:
+/// the runs with it less those without it. Nobody attacks yet, so that all looks
+/// are the same.
+fn turns_of_a_look<P: Prey>(window: SharedWindow) -> u64 {
     const TURNS: u64 = 2_000;
     let mut device = Device::new(window.raw());
-    let with = quickest(|| _ = black_box(device.one_command()));
-    let without = quickest(|| _ = black_box(device.check_only()));
+    let looks = device.one_command::<P>();
+    assert!(looks == [P::read(window); 2], "a look at a window at rest");
+    let with = quickest(|| _ = black_box(device.one_command::<P>()));
+    let without = quickest(|| _ = black_box(device.check_only::<P>()));
     let turns = quickest(|| idle(TURNS)).as_nanos().max(1);
     (with.saturating_sub(without).as_nanos() * u128::from(TURNS) / turns) as u64
 }
@@ -122,26 +143,4 @@ fn quickest(mut work: impl FnMut()) -> Duration {
         start.elapsed()
     };
     (0..2_000).map(time).min().unwrap_or_default()
-}
-
-impl fmt::Display for Seen {
-    fn fmt(&self, out: &mut fmt::Formatter<'_>) -> fmt::Result {
-        let part = |count: u64| 100.0 * count as f64 / self.runs.max(1) as f64;
-        writeln!(out, "runs: {}", self.runs)?;
-        writeln!(out, "writes of the count by the host: {}", self.host_writes)?;
-        writeln!(
-            out,
-            "one command saw the count 4 in {} runs and 40 in {}",
-            self.small, self.large
-        )?;
-        writeln!(out, "checked and used count differ:")?;
-        for (name, count) in [
-            ("two plain reads", self.plain),
-            ("fetched by two commands", self.two_commands),
-            ("fetched by one command", self.cache),
-        ] {
-            writeln!(out, "  {name}: {count} ({:.2} %)", part(count))?;
-        }
-        Ok(())
-    }
 }

@@ -2,12 +2,17 @@
 //!
 //! - [`same_journals`]: every journal of the tables, and random ones.
 //! - [`same_calls`]: random lists of calls, and every call of the tables.
+//! - [`same_walks`]: the same of walks, also beside one without a cache.
 //! - [`same_maps`]: the same of the byte map, beside the record engine.
-//! - [`source`]: where both draw their calls from.
+//! - [`parties`]: programs with their buffers.
+//! - [`drawn`]: random calls; [`source`]: where they are drawn from.
 
+mod drawn;
+mod parties;
 mod same_calls;
 mod same_journals;
 mod same_maps;
+mod same_walks;
 mod source;
 
 use crate::cases::Case;
@@ -16,5 +21,6 @@ use crate::cases::Case;
 pub fn difference(cases: &[Case]) -> Option<String> {
     same_journals::difference(cases)
         .or_else(|| same_calls::difference(cases))
+        .or_else(|| same_walks::difference(cases))
         .or_else(|| same_maps::difference(cases))
 }

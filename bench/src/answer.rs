@@ -1,6 +1,6 @@
 //! What the programs answer, in one form for all.
 
-use boundary::{Begun, Ended, Fetched, Shown, Written};
+use boundary::{Begun, Ended, Fetched, Shown, Walked, Written};
 use plain::calls::Counts;
 use plain::state::{length, start, Record};
 
@@ -88,6 +88,12 @@ impl From<Fetched> for Answer {
 impl From<Written> for Answer {
     fn from(reply: Written) -> Answer {
         Answer::of_status(reply.status, reply.bytes, reply.fresh)
+    }
+}
+
+impl From<Walked> for Answer {
+    fn from(reply: Walked) -> Answer {
+        Answer::of_status(reply.status, reply.spans, 0)
     }
 }
 

@@ -2,6 +2,8 @@
 
 use std::hint::black_box;
 
+use plain::walk::Transfer;
+
 use crate::answer::Answer;
 use crate::memory::Memory;
 use crate::programs::Cache;
@@ -24,6 +26,11 @@ pub enum Call {
         address: usize,
         length: usize,
     },
+    /// A host write of one entry of a page list.
+    HostEntry {
+        address: usize,
+        entry: u64,
+    },
     OwnWrite {
         command: usize,
         address: usize,
@@ -32,6 +39,10 @@ pub enum Call {
     Show {
         command: usize,
         index: usize,
+    },
+    Walk {
+        command: usize,
+        transfer: Transfer,
     },
     /// No call of a cache, but one copy of so many bytes.
     Copy {
@@ -78,6 +89,10 @@ pub fn make(cache: &mut impl Cache, memory: &mut Memory, call: Call, sink: &mut 
             let (window, bytes) = memory.write(address, length);
             sink.take(|| cache.host_write(window, address, bytes))
         }
+        Call::HostEntry { address, entry } => {
+            let (window, bytes) = (&mut memory.window, entry.to_le_bytes());
+            sink.take(|| cache.host_write(window, address, &bytes))
+        }
         Call::OwnWrite {
             command,
             address,
@@ -87,7 +102,21 @@ pub fn make(cache: &mut impl Cache, memory: &mut Memory, call: Call, sink: &mut 
             sink.take(|| cache.own_write(window, command, address, bytes))
         }
         Call::Show { command, index } => sink.take(|| cache.show(command, index)),
+        Call::Walk { command, transfer } => make_walk(cache, memory, command, &transfer, sink),
         Call::Copy { length } => sink.take(|| memory.copy(length)),
         Call::Idle => {}
     }
+}
+
+/// Makes a walk, which has more arguments than any other call and gets a stack frame
+/// of its own for them, so that those of the others cost what they cost without it.
+#[inline(never)]
+fn make_walk(
+    cache: &mut impl Cache,
+    memory: &mut Memory,
+    command: usize,
+    transfer: &Transfer,
+    sink: &mut impl Sink,
+) {
+    sink.take(|| cache.walk(memory, command, transfer));
 }

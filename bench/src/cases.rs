@@ -1,6 +1,7 @@
 //! What is measured: calls that follow others, and journals in pairs.
 //!
 //! - [`calls`]: the calls themselves.
+//! - [`walks`]: walks over page entries.
 //! - [`maps`]: calls that the byte map makes too.
 //! - [`journals`]: frames of journals.
 //! - [`moved`]: how many bytes they move.
@@ -9,6 +10,7 @@ mod calls;
 mod journals;
 mod maps;
 mod moved;
+mod walks;
 
 use crate::call::Call;
 
@@ -38,6 +40,8 @@ pub enum Group {
     Fresh(usize),
     /// A fetch of 4,096 bytes that joins records.
     Overlap,
+    /// A walk.
+    Walk,
     /// A call that the byte map makes too.
     Map,
     /// A frame of a journal.
@@ -95,6 +99,7 @@ impl Case {
 /// All cases.
 pub fn all() -> Vec<Case> {
     let mut cases = calls::all();
+    cases.extend(walks::all());
     cases.extend(maps::all());
     cases.extend(journals::all());
     cases

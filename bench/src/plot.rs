@@ -91,6 +91,7 @@ fn style(column: Column) -> String {
         Column::Bitmap => ("#a07000", "none"),
         Column::Copy => ("#808080", "2 2"),
         Column::Map | Column::CheckedMap | Column::UncheckedMap => ("#702090", "none"),
+        Column::Straight => ("black", "none"),
     };
     format!("fill=\"none\" stroke=\"{colour}\" stroke-width=\"2\" stroke-dasharray=\"{dashes}\"")
 }

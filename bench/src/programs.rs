@@ -4,6 +4,7 @@
 //! - [`ordinary`]: the plain program, with checks of the state and without.
 //! - [`maps`]: the byte map, proved and plain.
 //! - [`rivals`]: two ways without any checks.
+//! - [`straight`]: none, the window being read each time.
 //! - [`nothing`]: what making a call costs without the call.
 
 mod maps;
@@ -11,13 +12,16 @@ mod nothing;
 mod ordinary;
 mod proved;
 mod rivals;
+mod straight;
 
 pub use maps::{Map, OneCommand};
 pub use nothing::Nothing;
 pub use ordinary::Ordinary;
 pub use proved::Proved;
+pub use straight::Straight;
 
 use boundary::Words;
+use plain::walk::Transfer;
 
 use crate::answer::Answer;
 use crate::buffer::Buffer;
@@ -51,6 +55,13 @@ pub trait Cache {
         address: usize,
         bytes: &[u8],
     ) -> impl Into<Answer>;
+
+    fn walk(
+        &mut self,
+        memory: &mut Memory,
+        command: usize,
+        transfer: &Transfer,
+    ) -> impl Into<Answer>;
 }
 
 /// A program that keeps its state as words or can tell it as such.
@@ -58,4 +69,5 @@ pub trait Stateful: Cache {
     fn words(&self) -> Words;
     fn set_words(&mut self, words: &Words);
     fn store(&mut self) -> &mut Buffer;
+    fn scratch(&mut self) -> &mut Buffer;
 }

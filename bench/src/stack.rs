@@ -32,7 +32,15 @@ pub fn depths(cases: &[Case]) -> Vec<Depth> {
     let depth = |function, bytes| Depth { function, bytes };
     let mut state = [0; WORDS];
     let mut depths = vec![depth("fresh", taken(&mut || boundary::fresh(&mut state)))];
-    let calls = ["begin", "fetch", "end", "host write", "own write", "show"];
+    let calls = [
+        "begin",
+        "fetch",
+        "end",
+        "host write",
+        "own write",
+        "show",
+        "walk",
+    ];
     depths.extend(calls.map(|function| depth(function, of_call(cases, function))));
     depths.push(depth("frame read", of_reader()));
     depths.push(depth("frame write", of_writer()));
@@ -70,9 +78,10 @@ fn function(call: Call) -> &'static str {
         Call::Begin { .. } => "begin",
         Call::Fetch { .. } => "fetch",
         Call::End { .. } => "end",
-        Call::HostWrite { .. } => "host write",
+        Call::HostWrite { .. } | Call::HostEntry { .. } => "host write",
         Call::OwnWrite { .. } => "own write",
         Call::Show { .. } => "show",
+        Call::Walk { .. } => "walk",
         Call::Copy { .. } | Call::Idle => "none",
     }
 }

@@ -9,10 +9,11 @@ const NAMED: usize = 6;
 
 /// A list of lines for the document's beginning.
 pub fn lines(figures: &[Figures]) -> String {
-    let [calls, maps, frames] = parted(figures);
+    let [calls, walks, maps, frames] = parted(figures);
     let mut text = String::new();
     for (rows, what) in [
         (&calls, "calls"),
+        (&walks, "walks"),
         (&maps, "calls of the byte map"),
         (&frames, "frames of journals"),
     ] {

@@ -93,6 +93,7 @@ pub fn title(column: Column) -> &'static str {
         Column::Map => "byte map, proved",
         Column::CheckedMap => "byte map, plain, checks",
         Column::UncheckedMap => "byte map, plain, no checks",
+        Column::Straight => "no cache",
     }
 }
 
@@ -112,6 +113,17 @@ pub const OF_CALLS: [Column; 6] = [
     Column::Unchecked,
     Column::Ranges,
     Column::Bitmap,
+    Column::Copy,
+];
+
+/// The columns that a walk has.
+const OF_WALKS: [Column; 7] = [
+    Column::Proved,
+    Column::Checked,
+    Column::Unchecked,
+    Column::Ranges,
+    Column::Bitmap,
+    Column::Straight,
     Column::Copy,
 ];
 
@@ -135,14 +147,16 @@ const OF_JOURNALS: [Column; 4] = [
     Column::Copy,
 ];
 
-/// The rows of calls, of calls that the byte map makes too, and of journals.
-pub fn parted(figures: &[Figures]) -> [Vec<&Figures>; 3] {
+/// The rows of calls, of walks, of calls that the byte map makes too, and of
+/// journals.
+pub fn parted(figures: &[Figures]) -> [Vec<&Figures>; 4] {
     let of = |wanted: fn(Group) -> bool| {
         let rows = figures.iter();
         rows.filter(|row| wanted(row.group)).collect()
     };
     [
-        of(|group| !matches!(group, Group::Map | Group::Frame)),
+        of(|group| !matches!(group, Group::Walk | Group::Map | Group::Frame)),
+        of(|group| group == Group::Walk),
         of(|group| group == Group::Map),
         of(|group| group == Group::Frame),
     ]
@@ -150,10 +164,11 @@ pub fn parted(figures: &[Figures]) -> [Vec<&Figures>; 3] {
 
 /// The tables of calls and of journals, by each measure, and of the stack.
 pub fn tables(figures: &[Figures], depths: &[Depth]) -> String {
-    let [calls, maps, frames] = parted(figures);
+    let [calls, walks, maps, frames] = parted(figures);
     let mut text = String::new();
     for (title, rows, columns) in [
         ("one call", &calls, &OF_CALLS[..]),
+        ("one walk", &walks, &OF_WALKS[..]),
         ("one call that the byte map makes too", &maps, &OF_MAPS[..]),
         ("one frame of a journal", &frames, &OF_JOURNALS[..]),
     ] {

@@ -9,7 +9,7 @@ use plain::journal::{replay, Run};
 use crate::call::{make, Call, Unread};
 use crate::cases::{Case, Group, Subject};
 use crate::memory::{Desk, Memory};
-use crate::programs::{Cache, Map, Nothing, OneCommand, Ordinary, Proved};
+use crate::programs::{Cache, Map, Nothing, OneCommand, Ordinary, Proved, Straight};
 
 /// What is measured.
 #[derive(Clone, Copy, Debug, PartialEq, Eq)]
@@ -29,9 +29,11 @@ pub enum Column {
     CheckedMap,
     /// The plain byte map that does not.
     UncheckedMap,
+    /// No cache.
+    Straight,
 }
 
-pub const COLUMNS: [Column; 9] = [
+pub const COLUMNS: [Column; 10] = [
     Column::Proved,
     Column::Checked,
     Column::Unchecked,
@@ -41,6 +43,7 @@ pub const COLUMNS: [Column; 9] = [
     Column::Map,
     Column::CheckedMap,
     Column::UncheckedMap,
+    Column::Straight,
 ];
 
 /// A value for each column, if the column has one.
@@ -81,6 +84,8 @@ pub fn works(case: &Case, column: Column) -> Option<[Box<dyn Work>; 2]> {
                 Column::CheckedMap if is_of_map => map_calls::<Plain<true>>(before, &unit),
                 Column::UncheckedMap if is_of_map => map_calls::<Plain<false>>(before, &unit),
                 Column::Map | Column::CheckedMap | Column::UncheckedMap => return None,
+                Column::Straight if case.group == Group::Walk => calls::<Straight>(before, &unit),
+                Column::Straight => return None,
                 Column::Proved => calls::<Proved>(before, &unit),
                 Column::Checked => calls::<Ordinary<true>>(before, &unit),
                 Column::Unchecked => calls::<Ordinary<false>>(before, &unit),

@@ -46,6 +46,14 @@ pub struct Shown {
     pub length: u16,
 }
 
+/// How many spans a walk found, each in a page of its own.
+#[repr(C)]
+#[derive(Clone, Copy, Debug, PartialEq, Eq)]
+pub struct Walked {
+    pub status: u32,
+    pub spans: usize,
+}
+
 /// The step of a frame, and how many bytes the frame took up.
 #[repr(C)]
 #[derive(Clone, Copy, Debug, PartialEq, Eq)]
@@ -131,6 +139,24 @@ extern "C" {
     ) -> Written;
 
     pub fn doorclover_show(state: *const u16, command: usize, index: usize) -> Shown;
+
+    pub fn doorclover_walk(
+        state: *mut u16,
+        store: *mut u8,
+        store_size: usize,
+        window: *const u8,
+        window_size: usize,
+        scratch: *mut u8,
+        scratch_size: usize,
+        addresses: *mut u64,
+        address_places: usize,
+        lengths: *mut u32,
+        length_places: usize,
+        command: usize,
+        prp1: u64,
+        prp2: u64,
+        transfer: usize,
+    ) -> Walked;
 
     pub fn doorclover_frame_read(frame: *const u8, size: usize) -> Step;
 

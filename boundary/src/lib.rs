@@ -1,17 +1,18 @@
 //! The functions that the proved library exports, as Rust calls them.
 //!
-//! The library takes each slice as two arguments, a pointer to its first byte
+//! The library takes each slice as two arguments, a pointer to its first place
 //! and its length, a state as one pointer to its words, and a byte map as one
 //! pointer to each of its parts. What it promises of them is in
 //! `crates/doorclover/specs`. It asks nothing of their values and lengths; it
 //! does rely on what a Rust reference means: the memory is there, no two of the
 //! arguments share a byte, and nobody else writes them during the call. The safe
 //! functions here have that from their types.
-//! [`fetch_in`] does not for the window, and whoever calls it answers for it.
+//! [`fetch_in`] and [`walk_in`] do not for the window, and whoever calls them
+//! answers for it.
 
 mod exported;
 
-pub use exported::{Begun, Ended, Fetched, Framed, Replayed, Shown, Step, Written};
+pub use exported::{Begun, Ended, Fetched, Framed, Replayed, Shown, Step, Walked, Written};
 
 /// How many words a state has.
 pub const WORDS: usize = 1032;
@@ -166,6 +167,71 @@ pub fn own_write(
 pub fn show(state: &Words, command: usize, index: usize) -> Shown {
     // SAFETY: the words come from a reference, and are only read.
     unsafe { exported::doorclover_show(state.as_ptr(), command, index) }
+}
+
+/// Walks the page entries of a transfer. The addresses of its spans and their
+/// lengths go to the front of the two lists.
+#[allow(clippy::too_many_arguments)]
+pub fn walk(
+    state: &mut Words,
+    store: &mut [u8],
+    window: &[u8],
+    scratch: &mut [u8],
+    addresses: &mut [u64],
+    lengths: &mut [u32],
+    command: usize,
+    prp1: u64,
+    prp2: u64,
+    transfer: usize,
+) -> Walked {
+    // SAFETY: what is lent comes from references that live through the call.
+    // The window is only read.
+    unsafe {
+        let window = RawWindow {
+            start: window.as_ptr().cast_mut(),
+            length: window.len(),
+        };
+        walk_in(
+            state, store, window, scratch, addresses, lengths, command, prp1, prp2, transfer,
+        )
+    }
+}
+
+/// The same on a window that is given by its place.
+///
+/// # Safety
+///
+/// As for [`fetch_in`].
+#[allow(clippy::too_many_arguments)]
+pub unsafe fn walk_in(
+    state: &mut Words,
+    store: &mut [u8],
+    window: RawWindow,
+    scratch: &mut [u8],
+    addresses: &mut [u64],
+    lengths: &mut [u32],
+    command: usize,
+    prp1: u64,
+    prp2: u64,
+    transfer: usize,
+) -> Walked {
+    exported::doorclover_walk(
+        state.as_mut_ptr(),
+        store.as_mut_ptr(),
+        store.len(),
+        window.start,
+        window.length,
+        scratch.as_mut_ptr(),
+        scratch.len(),
+        addresses.as_mut_ptr(),
+        addresses.len(),
+        lengths.as_mut_ptr(),
+        lengths.len(),
+        command,
+        prp1,
+        prp2,
+        transfer,
+    )
 }
 
 pub fn frame_read(frame: &[u8]) -> Step {

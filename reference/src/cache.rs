@@ -192,7 +192,7 @@ fn refuse_beyond_limits(held: &Held) -> Result<(), Refusal> {
 }
 
 /// Whether the number is above that of the last command.
-fn no_such_command(command: u64) -> bool {
+pub(crate) fn no_such_command(command: u64) -> bool {
     command >= COMMANDS as u64
 }
 

@@ -1,5 +1,5 @@
 //! A second opinion on the command fetch cache, written from documents 01 (the
-//! agreed scope) and 02 (the agreed changes; of it F-1 to F-3) alone.
+//! agreed scope) and 02 (the agreed changes; of it F-1 to F-3 and F-5) alone.
 //! docs/RULES.md has their rules.
 //!
 //! A fetch or an own write is worked out here through a map from address to
@@ -10,6 +10,7 @@
 //! - [`refusal`]: the numbers with which a call or a frame is turned away.
 //! - [`book`]: spans, the book of records, and the check that it holds together.
 //! - [`cache`]: the six calls.
+//! - [`walk`]: the walk over page entries.
 //! - [`byte_map`]: the plain engine of one command.
 //! - [`frames`]: the reader and the writer of step frames.
 //! - [`journal`]: frames carried out one after the other, and their log.
@@ -24,3 +25,4 @@ pub mod journal;
 pub mod limits;
 pub mod log;
 pub mod refusal;
+pub mod walk;

@@ -1,6 +1,7 @@
 //! The numbers of the two lists "Turned away because of the input" and
 //! "Turned away because of the state" in 01 (the agreed scope; docs/RULES.md has
-//! its rules), and that of the byte map, F-2 in 02 (the agreed changes).
+//! its rules), and those of the byte map and of the walk, F-2 and F-5 in 02 (the
+//! agreed changes).
 
 /// Why a call or a frame is turned away. The order of the cases is the order
 /// of their numbers.
@@ -24,7 +25,8 @@ pub enum Refusal {
     StoreLength = 8,
     /// The span does not lie inside the present window.
     PastWindow = 9,
-    /// The destination or the output has no room for the result.
+    /// The destination or the output has no room for the result, or the scratch
+    /// or a list of a walk is too short.
     OutputTooShort = 10,
     /// The address does not fit into a frame.
     AddressTooHigh = 11,
@@ -42,6 +44,10 @@ pub enum Refusal {
     NoSuchRecord = 25,
     /// The window has more addresses than the byte map.
     WindowBeyondMap = 30,
+    /// A walk of no bytes or of more than 65,536.
+    TransferOutOfRange = 31,
+    /// PRP1, PRP2 or an entry of a list is no multiple of what it has to be.
+    EntryMisaligned = 32,
 }
 
 impl Refusal {
@@ -66,8 +72,8 @@ pub(crate) fn refuse_lowest<const N: usize>(cases: [(bool, Refusal); N]) -> Resu
 }
 
 /// Answers with the first refusal that is marked as applying, and with none if
-/// none applies: for the byte map, whose 30 is judged in the place of 7 (F-2 in
-/// 02).
+/// none applies: for the byte map, whose 30 is judged in the place of 7, and for
+/// the walk, whose 31 comes before all others (F-2 and F-5 in 02).
 pub(crate) fn refuse_first<const N: usize>(cases: [(bool, Refusal); N]) -> Result<(), Refusal> {
     match cases.into_iter().find(|(applies, _)| *applies) {
         Some((_, refusal)) => Err(refusal),

@@ -5,6 +5,7 @@ use reference::book::{Book, CommandBook, Span};
 use sampling::generator::Generator;
 
 use crate::scene::{evenly, open_with, Scene};
+use crate::walk_scene::transfer;
 
 /// A command whose entry at a place is set to a span, all else as it was.
 fn with_entry(mut command: CommandBook, place: usize, start: u64, length: u64) -> CommandBook {
@@ -159,6 +160,8 @@ fn each_broken_book_is_refused_by_every_call_that_takes_one() {
                 assert_eq!(scene.own_write(command, 0, &[7]), Err(20), "{name}");
                 assert_eq!(scene.own_write(command, 0, &[]), Err(20), "{name}");
                 assert_eq!(scene.show(command, 0), Err(20), "{name}");
+                let walk = transfer(0, 0, 1);
+                assert_eq!(scene.walk(command, walk), Err(20), "{name}");
             }
             assert_eq!(scene.host_write(0, &[7]), Ok(1), "{name}");
         }
@@ -177,6 +180,8 @@ fn each_sound_book_is_taken() {
             assert_eq!(scene.fetch(other, 3, 2), Ok((2, 0)), "{name}");
             assert_eq!(scene.own_write(other, 3, &[7]), Ok((1, 0)), "{name}");
             assert_eq!(scene.show(other, 0), Ok((3, 2)), "{name}");
+            let walk = scene.walk(other, transfer(8, 0, 1));
+            assert_eq!(walk, Ok(vec![(8, 1)]), "{name}");
             assert_eq!(scene.end(other), Ok((1, 2)), "{name}");
             assert_eq!(scene.book.commands[place as usize], sound, "{name}");
         }

@@ -6,6 +6,7 @@
 use std::collections::{BTreeMap, BTreeSet};
 
 use reference::book::Book;
+use reference::walk::Transfer;
 
 /// What the model knows of one held address.
 #[derive(Clone, Copy)]
@@ -185,6 +186,46 @@ impl Model {
         records.get(index as usize).copied().ok_or(25)
     }
 
+    /// Answers address and length of each span. What was fetched of lists stays,
+    /// also if the walk is refused.
+    pub fn walk(&mut self, command: u64, transfer: Transfer) -> Result<Vec<(u64, u64)>, u8> {
+        let Transfer { prp1, prp2, length } = transfer;
+        if length == 0 || length > 65_536 {
+            return Err(31);
+        }
+        if self.commands[known(command)?].is_none() {
+            return Err(21);
+        }
+        let start = multiple(prp1, 4)? % 4_096;
+        let end = start + length;
+        let count = end.div_ceil(4_096);
+        let mut addresses = match count {
+            1 => vec![],
+            2 => vec![multiple(prp2, 4_096)?],
+            _ => self.listed(command, multiple(prp2, 8)?, count - 1)?,
+        };
+        addresses.insert(0, prp1);
+        let cut = |border: u64| border.clamp(start, end);
+        let lengths = (0..count).map(|page| cut(4_096 * (page + 1)) - cut(4_096 * page));
+        Ok(addresses.into_iter().zip(lengths).collect())
+    }
+
+    /// So many pages from an entry of a list on.
+    fn listed(&mut self, command: u64, list: u64, count: u64) -> Result<Vec<u64>, u8> {
+        let fitting = 512 - list / 8 % 512;
+        let bytes = self.fetch(command, list, 8 * count.min(fitting))?.bytes;
+        let mut entries = vec![];
+        for entry in bytes.chunks(8) {
+            let entry = u64::from_le_bytes(entry.try_into().expect("eight bytes"));
+            entries.push(multiple(entry, 4_096)?);
+        }
+        if count > fitting {
+            let onward = entries.remove(fitting as usize - 1);
+            entries.extend(self.listed(command, onward, count - (fitting - 1))?);
+        }
+        Ok(entries)
+    }
+
     pub fn is_open(&self, command: u64) -> bool {
         self.commands[command as usize].is_some()
     }
@@ -228,6 +269,15 @@ fn met_labels(held: &BTreeMap<u64, Cell>, address: u64, length: u64) -> BTreeSet
     }
     let about = address.saturating_sub(1)..=address + length;
     held.range(about).map(|(_, cell)| cell.label).collect()
+}
+
+/// The number, if it is a multiple of the size.
+fn multiple(number: u64, size: u64) -> Result<u64, u8> {
+    if number % size == 0 {
+        Ok(number)
+    } else {
+        Err(32)
+    }
 }
 
 /// The place of a command, if there is one of that number.

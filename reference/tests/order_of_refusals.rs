@@ -50,8 +50,8 @@ impl Seen {
 /// Values that are refused: the number of no command, a length that no call
 /// takes, lengths that no store and no window may have, and records that do
 /// not hold together.
-struct Flawed {
-    command: u64,
+pub struct Flawed {
+    pub command: u64,
     length: u64,
     store: usize,
     window: usize,
@@ -59,7 +59,7 @@ struct Flawed {
 }
 
 /// Just past the limits.
-const SLIGHT: Flawed = Flawed {
+pub const SLIGHT: Flawed = Flawed {
     command: 8,
     length: 4_097,
     store: 32_767,
@@ -68,7 +68,7 @@ const SLIGHT: Flawed = Flawed {
 };
 
 /// Far from the limits.
-const GROSS: Flawed = Flawed {
+pub const GROSS: Flawed = Flawed {
     command: u64::MAX,
     length: 8_192,
     store: 0,
@@ -93,7 +93,7 @@ fn address_for(flaws: &[u8], gross: bool, window: usize, length: u64) -> u64 {
 
 /// A scene for a call of command 3 that takes in what it does not hold, with
 /// the flaws of window, store and book; nothing if these cannot stand together.
-fn holding_scene(flaws: &[u8], form: &Flawed) -> Option<Scene> {
+pub fn holding_scene(flaws: &[u8], form: &Flawed) -> Option<Scene> {
     let has = |number| flaws.contains(&number);
     if has(21) && (has(23) || has(24)) {
         return None;

@@ -48,7 +48,7 @@ impl Tally {
         self.refusals.get(&number).copied().unwrap_or(0)
     }
 
-    fn count_refusal<Reply>(&mut self, answer: &Result<Reply, u8>) {
+    pub fn count_refusal<Reply>(&mut self, answer: &Result<Reply, u8>) {
         if let Err(number) = answer {
             *self.refusals.entry(*number).or_default() += 1;
         }
@@ -68,6 +68,18 @@ impl Tally {
 /// Runs all lists of a profile.
 fn run(profile: &Profile) -> Tally {
     let mut tally = Tally::default();
+    run_with(profile, |generator, scene, model| {
+        one_call(profile, generator, scene, model, &mut tally);
+    });
+    tally
+}
+
+/// Runs all lists of a profile from the fresh book on, each call as it is made
+/// here.
+pub fn run_with(
+    profile: &Profile,
+    mut make_call: impl FnMut(&mut Generator, &mut Scene, &mut Model),
+) {
     for list in 0..profile.lists {
         let mut generator = Generator::new(1_000 * profile.seed + list);
         let mut scene = Scene {
@@ -78,10 +90,9 @@ fn run(profile: &Profile) -> Tally {
         };
         let mut model = Model::fresh(&scene.store, &scene.window);
         for _ in 0..profile.calls {
-            one_call(profile, &mut generator, &mut scene, &mut model, &mut tally);
+            make_call(&mut generator, &mut scene, &mut model);
         }
     }
-    tally
 }
 
 /// Makes one call, after the host has perhaps written to the window, and
@@ -151,7 +162,7 @@ fn change_window(generator: &mut Generator, scene: &mut Scene, model: &mut Model
 }
 
 /// Begins a closed command before it is used, as one does but for now and then.
-fn mostly_open(generator: &mut Generator, command: u64, scene: &mut Scene, model: &mut Model) {
+pub fn mostly_open(generator: &mut Generator, command: u64, scene: &mut Scene, model: &mut Model) {
     if command < 8 && !model.is_open(command) && !generator.one_in(8) {
         assert_eq!(scene.begin(command), model.begin(command));
     }
@@ -194,7 +205,7 @@ fn one_fetch(
 
 /// Holds book, store and window against the model. Only the command of the
 /// call may have changed in the book.
-fn check_state(command: u64, before: &Book, scene: &Scene, model: &Model) {
+pub fn check_state(command: u64, before: &Book, scene: &Scene, model: &Model) {
     assert!(scene.store == model.store, "the store differs");
     assert!(scene.window == model.window, "the window differs");
     let mut expected = before.clone();

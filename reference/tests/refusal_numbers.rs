@@ -24,6 +24,8 @@ fn every_case_has_its_number() {
         (Refusal::TooManyRecords, 24),
         (Refusal::NoSuchRecord, 25),
         (Refusal::WindowBeyondMap, 30),
+        (Refusal::TransferOutOfRange, 31),
+        (Refusal::EntryMisaligned, 32),
     ];
     for (refusal, number) in numbers {
         assert_eq!(refusal.number(), number);

@@ -4,6 +4,7 @@
 mod map_scene;
 mod model;
 mod scene;
+mod walk_scene;
 
 mod any_book;
 mod broken_books;
@@ -13,12 +14,15 @@ mod journals;
 mod limits_of_calls;
 mod limits_of_frames;
 mod limits_of_maps;
+mod limits_of_walks;
 mod log_program;
 mod map_beside_records;
 mod order_of_map_refusals;
 mod order_of_refusals;
+mod order_of_walk_refusals;
 mod program;
 mod random_lists;
+mod random_walks;
 mod refusal_numbers;
 mod situations;
 mod worked_log;

@@ -5,24 +5,11 @@
 #include <stdint.h>
 #include <string.h>
 
-static const size_t too_high[] = {8, 9, 129, 65536, SIZE_MAX};
-enum { TOO_HIGH = sizeof too_high / sizeof too_high[0] };
-
 /* The desk with another store, window, destination or bytes. */
 static desk with_store(desk d, lent *l) { d.store = l; return d; }
 static desk with_window(desk d, lent *l) { d.window = l; return d; }
 static desk with_destination(desk d, lent *l) { d.destination = l; return d; }
 static desk with_bytes(desk d, lent *l) { d.bytes = l; return d; }
-
-static void break_words(const desk *d)
-{
-    words_of(d, 7)[128] = 1;
-}
-
-static void mend_words(const desk *d)
-{
-    words_of(d, 7)[128] = 0;
-}
 
 /* Were these the bytes of the host at an address? */
 static int delivered(const desk *d, size_t address, size_t length)

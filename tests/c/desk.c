@@ -15,10 +15,11 @@ void check(int good, const char *what, const char *file, int line)
 }
 
 /* The refusals that were seen, of each call. */
-enum { CALLS = 12, NUMBERS = 32 };
+enum { CALLS = 13, NUMBERS = 33 };
 static const char *const names[CALLS] = {"begin",     "fetch",     "end",     "host write",
                                          "own write", "show",      "read",    "write",
-                                         "map begin", "map fetch", "map end", "map own write"};
+                                         "map begin", "map fetch", "map end", "map own write",
+                                         "walk"};
 static int seen[CALLS][NUMBERS];
 
 static int *seen_of(const char *call)
@@ -62,7 +63,9 @@ uint8_t host_byte(size_t address)
 desk fresh_desk(void)
 {
     desk d = {lend(sizeof(doorclover_state), 0xff), lend(DOORCLOVER_STORE, 0x5a), lend(16384, 0),
-              lend(DOORCLOVER_TRANSFER, 0xee), lend(0, 0), lend(8192, 0xdd)};
+              lend(DOORCLOVER_TRANSFER, 0xee), lend(0, 0), lend(8192, 0xdd),
+              lend(DOORCLOVER_WALK_SCRATCH, 0), lend(DOORCLOVER_WALK_SPANS * sizeof(uint64_t), 0),
+              lend(DOORCLOVER_WALK_SPANS * sizeof(uint32_t), 0)};
     for (size_t i = 0; i < d.window->size; i++)
         d.window->bytes[i] = host_byte(i);
     doorclover_fresh(state_of(&d));
@@ -86,6 +89,18 @@ uint16_t *words_of(const desk *d, size_t command)
 {
     return state_of(d)->words + DOORCLOVER_COMMAND_WORDS * command;
 }
+
+void break_words(const desk *d)
+{
+    words_of(d, 7)[128] = 1;
+}
+
+void mend_words(const desk *d)
+{
+    words_of(d, 7)[128] = 0;
+}
+
+const size_t too_high[TOO_HIGH] = {8, 9, 129, 65536, (size_t)1 << 32, SIZE_MAX};
 
 /* The words and the part of the store of a command may change. */
 static void allow_command(const desk *d, size_t command)
@@ -249,6 +264,87 @@ void own_write(const desk *d, size_t command, size_t address, size_t fresh)
     if (d->bytes->size > 0)
         allow_command(d, command);
     written(d, r, address, fresh);
+}
+
+/* Bytes that a walk does not put there itself, so that a change is seen. */
+static void dirty(const lent *l)
+{
+    if (l->size > 0)
+        memset(l->bytes, 0xcc, l->size);
+}
+
+static int is_zero(const lent *l)
+{
+    for (size_t i = 0; i < l->size; i++)
+        if (l->bytes[i] != 0)
+            return 0;
+    return 1;
+}
+
+static doorclover_walked call_walk(const desk *d, const walking *w)
+{
+    dirty(d->scratch);
+    dirty(d->addresses);
+    dirty(d->lengths);
+    keep_all();
+    return doorclover_walk(state_of(d), d->store->bytes, d->store->size, d->window->bytes,
+                           d->window->size, d->scratch->bytes, d->scratch->size,
+                           (uint64_t *)(void *)d->addresses->bytes,
+                           d->addresses->size / sizeof(uint64_t),
+                           (uint32_t *)(void *)d->lengths->bytes, d->lengths->size / sizeof(uint32_t),
+                           w->command, w->prp1, w->prp2, w->transfer);
+}
+
+void walk_refused(const desk *d, doorclover_status want, const walking *w)
+{
+    doorclover_walked r = call_walk(d, w);
+    turned_away("walk", want, r.status, r.spans);
+}
+
+/* Makes a walk. It leaves what its first fetches would, made one by one, and zeros in its scratch. */
+static doorclover_walked walk_as_fetches(const desk *d, const walking *w, size_t count)
+{
+    static doorclover_state state;
+    static uint8_t store[DOORCLOVER_STORE], entries[DOORCLOVER_WALK_SCRATCH];
+    state = *state_of(d);
+    memcpy(store, d->store->bytes, sizeof store);
+    for (size_t i = 0; i < count; i++)
+        CHECK(doorclover_fetch(&state, store, sizeof store, d->window->bytes, d->window->size, entries,
+                               sizeof entries, w->command, w->lists[i].address,
+                               w->lists[i].length).status == DOORCLOVER_OK);
+    doorclover_walked r = call_walk(d, w);
+    CHECK(memcmp(d->state->bytes, &state, sizeof state) == 0);
+    CHECK(memcmp(d->store->bytes, store, sizeof store) == 0);
+    CHECK(is_zero(d->scratch));
+    allow_command(d, w->command);
+    allow(d->scratch, 0, d->scratch->size);
+    return r;
+}
+
+void walk_stopped(const desk *d, doorclover_status want, const walking *w, size_t accepted)
+{
+    doorclover_walked r = walk_as_fetches(d, w, accepted);
+    turned_away("walk", want, r.status, r.spans);
+}
+
+/* Each byte of the transfer counts in its page. */
+static int lengths_are(const desk *d, const walking *w)
+{
+    uint32_t lengths[DOORCLOVER_WALK_SPANS] = {0};
+    for (size_t i = 0; i < w->transfer; i++)
+        lengths[(w->prp1 % DOORCLOVER_PAGE + i) / DOORCLOVER_PAGE]++;
+    return memcmp(d->lengths->bytes, lengths, w->spans * sizeof lengths[0]) == 0;
+}
+
+void walk(const desk *d, const walking *w)
+{
+    doorclover_walked r = walk_as_fetches(d, w, 2);
+    CHECK(r.status == DOORCLOVER_OK && r.spans == w->spans);
+    CHECK(memcmp(d->addresses->bytes, w->pages, w->spans * sizeof w->pages[0]) == 0);
+    CHECK(lengths_are(d, w));
+    allow(d->addresses, 0, w->spans * sizeof(uint64_t));
+    allow(d->lengths, 0, w->spans * sizeof(uint32_t));
+    CHECK(all_kept());
 }
 
 void show_refused(const desk *d, doorclover_status want, size_t command, size_t index)

@@ -14,6 +14,9 @@ typedef struct {
     lent *destination;
     lent *bytes;  /* what is written, the data of a frame, a frame or a journal */
     lent *output; /* a frame or a log */
+    lent *scratch; /* of a walk, and where it puts its spans */
+    lent *addresses;
+    lent *lengths;
 } desk;
 
 /* A test fails if one of its checks does. */
@@ -33,6 +36,29 @@ uint16_t *words_of(const desk *d, size_t command);
 /* The byte of the window at an address, as a fresh desk has it. */
 uint8_t host_byte(size_t address);
 
+/* Words that do not hold together, and as they were. */
+void break_words(const desk *d);
+void mend_words(const desk *d);
+
+/* Commands that there are none of. */
+enum { TOO_HIGH = 6 };
+extern const size_t too_high[TOO_HIGH];
+
+/*
+ * A walk: what it is given, and what is wanted of it. It makes at most two fetches, each of the entries of
+ * a list; one of length 0 is none.
+ */
+typedef struct {
+    size_t command;
+    uint64_t prp1, prp2;
+    size_t transfer;
+    struct {
+        size_t address, length;
+    } lists[2];
+    uint64_t pages[DOORCLOVER_WALK_SPANS]; /* the addresses of its spans */
+    size_t spans;
+} walking;
+
 /*
  * What a call replied, by its name, against the refusal wanted: the status is that one, the other
  * members are 0 (others is all of them by a bitwise or), and nothing lent has changed.
@@ -46,10 +72,17 @@ void fetch_refused(const desk *d, doorclover_status want, size_t command, size_t
                    size_t length);
 void host_refused(const desk *d, doorclover_status want, size_t address);
 void own_refused(const desk *d, doorclover_status want, size_t command, size_t address);
+void walk_refused(const desk *d, doorclover_status want, const walking *w);
 void show_refused(const desk *d, doorclover_status want, size_t command, size_t index);
 void read_refused(const desk *d, doorclover_status want);
 void write_refused(const desk *d, doorclover_status want, size_t kind, size_t command,
                    size_t address, size_t length);
+
+/*
+ * A walk that is refused from PRP1 on, when so many of its fetches were accepted: state and store are what
+ * these leave, the scratch is zero, and nothing else has changed.
+ */
+void walk_stopped(const desk *d, doorclover_status want, const walking *w, size_t accepted);
 
 /* A call that is done: its reply is the one wanted, and no byte has changed that it may not change. */
 void begin(const desk *d, size_t command);
@@ -58,6 +91,7 @@ void fetch(const desk *d, size_t command, size_t address, size_t length, size_t 
            size_t replayed);
 void host_write(const desk *d, size_t address);
 void own_write(const desk *d, size_t command, size_t address, size_t fresh);
+void walk(const desk *d, const walking *w);
 void show(const desk *d, size_t command, size_t index, size_t start, size_t length);
 
 /* Were just these refusals seen, of a call by its name? The numbers end with 0. */

@@ -255,8 +255,9 @@ void test_journal_nulls(void)
         0x60, 0x00, 0x00, 0x00, 0x00,      /* host write of nothing */
         0x60, 0x00, 0x00, 0x00, 0x20, 0x01 /* host write of a byte */
     };
-    desk d = with(frames, sizeof frames), none = {NULL,     &nothing, &nothing,
-                                                  &nothing, &nothing, &nothing};
+    desk d = with(frames, sizeof frames);
+    desk none = {.store = &nothing, .window = &nothing, .destination = &nothing, .bytes = &nothing,
+                 .output = &nothing};
     logs(&none, "", 0, 0, 0);
     none.output = d.output;
     logs(&none, "", 0, 0, 0);

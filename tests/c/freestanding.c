@@ -55,6 +55,9 @@ static void say_number(size_t n)
 static doorclover_state state;
 static doorclover_map map;
 static uint8_t store[DOORCLOVER_STORE], window[16384], list[4096], output[8192];
+static uint8_t scratch[DOORCLOVER_WALK_SCRATCH];
+static uint64_t addresses[DOORCLOVER_WALK_SPANS];
+static uint32_t lengths[DOORCLOVER_WALK_SPANS];
 
 /* The host changes the count behind the check; the count that is used is the one that was checked. */
 static int retire_list(void)
@@ -109,6 +112,16 @@ static void own_write(void)
 {
     told = doorclover_own_write(&state, store, sizeof store, window, sizeof window, 3, 1, list,
                                 sizeof list).status;
+}
+
+/* The window is all zeros: its last entry leads onward to 16 more, at 0. */
+static void walk(void)
+{
+    doorclover_walked r = doorclover_walk(&state, store, sizeof store, window, sizeof window, scratch,
+                                          sizeof scratch, addresses, DOORCLOVER_WALK_SPANS, lengths,
+                                          DOORCLOVER_WALK_SPANS, 3, 4, sizeof window - 8,
+                                          DOORCLOVER_WALK_TRANSFER);
+    told = r.spans == DOORCLOVER_WALK_SPANS ? r.status : 1;
 }
 
 static void show(void)
@@ -206,7 +219,7 @@ static int within(const char *name, void (*function)(void), size_t most)
     return told == DOORCLOVER_OK && bytes <= most;
 }
 
-/* Command 3 has records of one byte, which the fetch and the own write join. */
+/* Command 3 has records of one byte, which the fetch, the own write and the walk's second list join. */
 static int hold_some(void)
 {
     for (size_t i = 0; i < DOORCLOVER_RECORDS - 1; i++)
@@ -238,6 +251,11 @@ static int stacks(void)
     begin();
     good &= hold_some();
     good &= within("own write", own_write, DOORCLOVER_STACK);
+    end();
+    begin();
+    memset(window, 0, sizeof window);
+    good &= hold_some();
+    good &= within("walk", walk, DOORCLOVER_STACK);
     good &= within("frame write", frame_write, DOORCLOVER_STACK);
     good &= within("frame read", frame_read, DOORCLOVER_STACK);
     good &= within("journal replay", journal, DOORCLOVER_JOURNAL_STACK);

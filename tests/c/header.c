@@ -18,6 +18,9 @@ extern doorclover_ended (*const end_is)(state *, writes, size_t, size_t);
 extern doorclover_written (*const host_write_is)(writes, size_t, size_t, reads, size_t);
 extern doorclover_written (*const own_write_is)(state *, writes, size_t, writes, size_t, size_t,
                                                 size_t, reads, size_t);
+extern doorclover_walked (*const walk_is)(state *, writes, size_t, reads, size_t, writes, size_t,
+                                          uint64_t *, size_t, uint32_t *, size_t, size_t, uint64_t,
+                                          uint64_t, size_t);
 extern doorclover_shown (*const show_is)(const state *, size_t, size_t);
 extern doorclover_step (*const frame_read_is)(reads, size_t);
 extern doorclover_framed (*const frame_write_is)(writes, size_t, size_t, size_t, size_t, size_t,
@@ -42,6 +45,9 @@ doorclover_written (*const host_write_is)(writes, size_t, size_t, reads,
                                           size_t) = doorclover_host_write;
 doorclover_written (*const own_write_is)(state *, writes, size_t, writes, size_t, size_t, size_t,
                                          reads, size_t) = doorclover_own_write;
+doorclover_walked (*const walk_is)(state *, writes, size_t, reads, size_t, writes, size_t, uint64_t *,
+                                   size_t, uint32_t *, size_t, size_t, uint64_t, uint64_t,
+                                   size_t) = doorclover_walk;
 doorclover_shown (*const show_is)(const state *, size_t, size_t) = doorclover_show;
 doorclover_step (*const frame_read_is)(reads, size_t) = doorclover_frame_read;
 doorclover_framed (*const frame_write_is)(writes, size_t, size_t, size_t, size_t, size_t, reads,
@@ -71,14 +77,15 @@ typedef struct {
     doorclover_fetched fetched;
     doorclover_ended ended;
     doorclover_written written;
+    doorclover_walked walked;
     doorclover_shown shown;
     doorclover_step step;
     doorclover_framed framed;
     doorclover_replayed replayed;
 } replies;
 
-extern void point(replies *r, uint32_t *narrow[8], uint16_t *half[2], size_t *wide[15]);
-void point(replies *r, uint32_t *narrow[8], uint16_t *half[2], size_t *wide[15])
+extern void point(replies *r, uint32_t *narrow[9], uint16_t *half[2], size_t *wide[16]);
+void point(replies *r, uint32_t *narrow[9], uint16_t *half[2], size_t *wide[16])
 {
     narrow[0] = &r->begun.status;
     narrow[1] = &r->fetched.status;
@@ -88,6 +95,7 @@ void point(replies *r, uint32_t *narrow[8], uint16_t *half[2], size_t *wide[15])
     narrow[5] = &r->step.status;
     narrow[6] = &r->framed.status;
     narrow[7] = &r->replayed.early;
+    narrow[8] = &r->walked.status;
     half[0] = &r->shown.start;
     half[1] = &r->shown.length;
     wide[0] = &r->fetched.fresh;
@@ -105,6 +113,7 @@ void point(replies *r, uint32_t *narrow[8], uint16_t *half[2], size_t *wide[15])
     wide[12] = &r->replayed.written;
     wide[13] = &r->replayed.carried;
     wide[14] = &r->replayed.refused;
+    wide[15] = &r->walked.spans;
 }
 
 /* A status can be compared and switched on without a warning. */
@@ -116,6 +125,6 @@ int is_full(doorclover_status status)
     case DOORCLOVER_TOO_MANY_RECORDS:
         return 1;
     default:
-        return status != DOORCLOVER_OK && status > DOORCLOVER_WINDOW_BEYOND_MAP;
+        return status != DOORCLOVER_OK && status > DOORCLOVER_ENTRY_MISALIGNED;
     }
 }

@@ -11,6 +11,7 @@ static void test_every_refusal_seen(void)
     static const doorclover_status ends[] = {6, 8, 20, 21, 0};
     static const doorclover_status hosts[] = {4, 7, 9, 0};
     static const doorclover_status owns[] = {4, 6, 7, 8, 9, 20, 21, 23, 24, 0};
+    static const doorclover_status walks[] = {6, 7, 8, 9, 10, 20, 21, 23, 24, 31, 32, 0};
     static const doorclover_status shows[] = {6, 20, 21, 25, 0};
     static const doorclover_status reads[] = {1, 2, 3, 4, 5, 0};
     static const doorclover_status writes[] = {2, 3, 4, 5, 6, 10, 11, 0};
@@ -23,6 +24,7 @@ static void test_every_refusal_seen(void)
     CHECK(seen_just("end", ends));
     CHECK(seen_just("host write", hosts));
     CHECK(seen_just("own write", owns));
+    CHECK(seen_just("walk", walks));
     CHECK(seen_just("show", shows));
     CHECK(seen_just("read", reads));
     CHECK(seen_just("write", writes));
@@ -58,6 +60,23 @@ static const test tests[] = {
     {"own write of too many bytes and records", test_own_write_full},
     {"show", test_show},
     {"null pointers with length 0", test_nulls},
+    {"walk of one page", test_walk_one_page},
+    {"walk of two pages", test_walk_two_pages},
+    {"walk of a list", test_walk_list},
+    {"walk onward to a second list", test_walk_onward},
+    {"walk of any pages", test_walk_any_pages},
+    {"walk of lists at the end of the window", test_walk_window_end},
+    {"walk of lists outside the window", test_walk_outside},
+    {"walk of wrong multiples", test_walk_multiples},
+    {"walk with two faults, in their order", test_walk_order},
+    {"walk refused before PRP1", test_walk_refused},
+    {"walk with more and less room", test_walk_room},
+    {"walk of too many bytes and records", test_walk_full},
+    {"walk again, after the host", test_walk_again},
+    {"walk of entries held before", test_walk_held},
+    {"walk of entries that the command wrote", test_walk_own_entries},
+    {"walk refused, and what it keeps", test_walk_keeps},
+    {"walk of every command", test_walk_commands},
     {"broken words", test_broken_words},
     {"words at their limits", test_words_at_their_limits},
     {"a state in a larger struct", test_state_in_a_struct},

@@ -71,12 +71,16 @@ void test_broken_words(void)
         unsigned long before = failures;
         lay(&d, &broken[i]);
         for (size_t c = 0; c < DOORCLOVER_COMMANDS; c++) {
+            walking one = {.command = c, .transfer = 1};
+            walking many = {.command = c, .transfer = DOORCLOVER_WALK_TRANSFER};
             begin_refused(&d, DOORCLOVER_STATE_BROKEN, c);
             fetch_refused(&d, DOORCLOVER_STATE_BROKEN, c, 9, 3);
             fetch_refused(&d, DOORCLOVER_STATE_BROKEN, c, 0, 0);
             end_refused(&d, DOORCLOVER_STATE_BROKEN, c);
             own_refused(&d, DOORCLOVER_STATE_BROKEN, c, 0);
             own_refused(&two, DOORCLOVER_STATE_BROKEN, c, 9);
+            walk_refused(&d, DOORCLOVER_STATE_BROKEN, &one);
+            walk_refused(&d, DOORCLOVER_STATE_BROKEN, &many);
             show_refused(&d, DOORCLOVER_STATE_BROKEN, c, 0);
         }
         name_if(before, &broken[i]);

@@ -24,6 +24,25 @@ void test_own_write_full(void);
 void test_show(void);
 void test_nulls(void);
 
+/* walk.c */
+void test_walk_one_page(void);
+void test_walk_two_pages(void);
+void test_walk_list(void);
+void test_walk_onward(void);
+void test_walk_any_pages(void);
+void test_walk_window_end(void);
+void test_walk_outside(void);
+void test_walk_multiples(void);
+void test_walk_order(void);
+void test_walk_refused(void);
+void test_walk_room(void);
+void test_walk_full(void);
+void test_walk_again(void);
+void test_walk_held(void);
+void test_walk_own_entries(void);
+void test_walk_keeps(void);
+void test_walk_commands(void);
+
 /* states.c */
 void test_broken_words(void);
 void test_words_at_their_limits(void);

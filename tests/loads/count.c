@@ -12,19 +12,22 @@
 #define COMMANDS 8
 #define MAP COMMANDS /* the byte map's one command */
 #define PART 4096
-#define WINDOW 65536
+#define ADDRESSES_OF_WINDOW 65536
 
-/* A buffer of the driver: how often each byte was loaded and stored during the call, and which were to be. */
+/*
+ * A buffer of the driver: how often each byte was loaded and stored during the call, which were to be, and which the call may touch
+ * as it likes.
+ */
 struct room {
     size_t start, size;
     uint32_t *loads, *stores;
-    bool *to_load, *to_store;
+    bool *to_load, *to_store, *own;
 };
 
-static struct room window, store, values, destination;
-static bool *own_part;   /* the bytes of the store that the call may touch */
-static bool *own_values; /* and those of the values */
-static bool held[COMMANDS + 1][WINDOW];
+enum { WINDOW, STORE, VALUES, DESTINATION, SCRATCH, ADDRESSES, LENGTHS, ROOMS };
+static const char *const names[ROOMS] = {"window", "store", "values", "destination", "scratch", "addresses", "lengths"};
+static struct room rooms[ROOMS];
+static bool held[COMMANDS + 1][ADDRESSES_OF_WINDOW];
 static size_t marker;
 static unsigned passed, failed;
 
@@ -45,21 +48,33 @@ static void *zeros(size_t count, size_t size) {
     return p;
 }
 
-static void forget(struct room *r) {
-    memset(r->loads, 0, r->size * sizeof *r->loads);
-    memset(r->stores, 0, r->size * sizeof *r->stores);
-    memset(r->to_load, 0, r->size);
-    memset(r->to_store, 0, r->size);
+/* A new call, of which nothing is asked as yet. */
+static void forget(void) {
+    for (struct room *r = rooms; r < rooms + ROOMS; r++) {
+        memset(r->loads, 0, r->size * sizeof *r->loads);
+        memset(r->stores, 0, r->size * sizeof *r->stores);
+        memset(r->to_load, 0, r->size);
+        memset(r->to_store, 0, r->size);
+        memset(r->own, 0, r->size);
+    }
+}
+
+/* The room of a name. */
+static struct room *named(const char *name) {
+    for (size_t i = 0; i < ROOMS; i++)
+        if (strcmp(name, names[i]) == 0) return &rooms[i];
+    stop("there is no such room");
+    return NULL;
 }
 
 static void furnish(struct room *r, size_t start, size_t size) {
-    *r = (struct room){.start = start, .size = size};
+    r->start = start;
+    r->size = size;
     r->loads = zeros(size, sizeof *r->loads);
     r->stores = zeros(size, sizeof *r->stores);
     r->to_load = zeros(size, 1);
     r->to_store = zeros(size, 1);
-    if (r == &store) own_part = zeros(size, 1);
-    if (r == &values) own_values = zeros(size, 1);
+    r->own = zeros(size, 1);
 }
 
 /* Marks what is lent from a byte on; the edges before and behind are never asked for. */
@@ -91,10 +106,7 @@ static void up_to_marker(FILE *trace, bool counted) {
         if (line[0] != ' ' || sscanf(line, " %c %zx,%zu", &kind, &start, &size) != 3) continue;
         if (start == marker && kind == 'S') return;
         if (!counted) continue;
-        count(&window, start, size, kind);
-        count(&store, start, size, kind);
-        count(&values, start, size, kind);
-        count(&destination, start, size, kind);
+        for (struct room *r = rooms; r < rooms + ROOMS; r++) count(r, start, size, kind);
     }
     stop("the trace ends before the calls do");
 }
@@ -119,26 +131,31 @@ static bool each_once(struct tally t) {
     return t.never == 0 && t.more == 0 && t.other == 0;
 }
 
+/* How many bytes were touched that were not asked for and are not the call's own. */
+static size_t stray(const uint32_t *counts, const bool *asked, const bool *own, size_t size) {
+    size_t n = 0;
+    for (size_t i = 0; i < size; i++) n += counts[i] != 0 && !asked[i] && !own[i];
+    return n;
+}
+
 static void judge(const char *text, bool right, size_t fresh, size_t replayed, unsigned status) {
-    struct tally loaded = tally(window.loads, window.to_load, window.size);
-    struct tally stored = tally(window.stores, window.to_store, window.size);
-    struct tally kept = tally(store.loads, store.to_load, store.size);
-    struct tally valued = tally(values.loads, values.to_load, values.size);
-    /* places of given bytes that were not stored */
-    size_t lost = tally(store.stores, store.to_store, store.size).never + tally(values.stores, values.to_store, values.size).never;
-    struct tally put = tally(destination.stores, destination.to_store, destination.size);
-    /* loads of the destination, stores behind what is delivered, another command's part, and values that are not lent */
-    size_t astray = tally(destination.loads, destination.to_load, destination.size).other + put.other +
-                    tally(store.loads, own_part, store.size).other + tally(store.stores, own_part, store.size).other +
-                    tally(values.loads, own_values, values.size).other + tally(values.stores, own_values, values.size).other;
-    bool ok = right && each_once(loaded) && each_once(stored) && kept.never == 0 && valued.never == 0 && lost == 0 &&
-              put.never == 0 && astray == 0;
+    const struct room *window = &rooms[WINDOW];
+    struct tally loaded = tally(window->loads, window->to_load, window->size);
+    struct tally stored = tally(window->stores, window->to_store, window->size);
+    /* of the other rooms: held bytes that were loaded, what was asked for and not touched, and what was touched and is not lent for it */
+    size_t kept = 0, missed = 0, astray = 0;
+    for (const struct room *r = window + 1; r < rooms + ROOMS; r++) {
+        struct tally l = tally(r->loads, r->to_load, r->size), s = tally(r->stores, r->to_store, r->size);
+        kept += l.once + l.more;
+        missed += l.never + s.never;
+        astray += stray(r->loads, r->to_load, r->own, r->size) + stray(r->stores, r->to_store, r->own, r->size);
+    }
+    bool ok = right && each_once(loaded) && each_once(stored) && missed == 0 && astray == 0;
     if (ok) passed++;
     else failed++;
     if (ok && text[0] == '-') return;
     printf("%-38s %6u %6zu %8zu | %6zu %6zu %6zu %6zu | %6zu %6zu%s\n", text, status, fresh, replayed, loaded.once, loaded.more,
-           loaded.other, stored.once + stored.more + stored.other, kept.once + kept.more + valued.once + valued.more, astray,
-           ok ? "" : "  FAILED");
+           loaded.other, stored.once + stored.more + stored.other, kept, astray, ok ? "" : "  FAILED");
 }
 
 static void heading(void) {
@@ -147,33 +164,29 @@ static void heading(void) {
            "stored", "loaded", "astray");
 }
 
-/* The room of a name. */
-static struct room *named(const char *name) {
-    return name[0] == 'w' ? &window : name[0] == 's' ? &store : name[0] == 'v' ? &values : &destination;
-}
-
-/* A new call, of which nothing is asked as yet. */
-static void forget_all(void) {
-    forget(&window);
-    forget(&store);
-    forget(&values);
-    forget(&destination);
-    memset(own_part, 0, store.size);
-    memset(own_values, 0, values.size);
-}
-
-/* It delivers these bytes: it loads their places and stores to the front of the destination. */
-static void ask_delivery(size_t command, size_t address, size_t length) {
-    if (command == MAP) ask(values.to_load, address, length);
-    else ask(store.to_load, place(command, address), length);
-    ask(destination.to_store, 0, length);
+/* It gives these held bytes: it loads their places. */
+static void ask_held(size_t command, size_t address, size_t length) {
+    if (command == MAP) ask(rooms[VALUES].to_load, address, length);
+    else ask(rooms[STORE].to_load, place(command, address), length);
 }
 
 /* It holds these bytes, which it was given: it stores their places. */
 static void ask_holding(size_t command, size_t address, size_t length) {
     memset(held[command] + address, true, length);
-    if (command == MAP) ask(values.to_store, address, length);
-    else ask(store.to_store, place(command, address), length);
+    if (command == MAP) ask(rooms[VALUES].to_store, address, length);
+    else ask(rooms[STORE].to_store, place(command, address), length);
+}
+
+/* It clears its scratch, in which it may do as it likes before. */
+static void ask_scratch(size_t size) {
+    ask(rooms[SCRATCH].to_store, 0, size);
+    ask(rooms[SCRATCH].own, 0, size);
+}
+
+/* It puts so many spans into its lists. */
+static void ask_spans(size_t count) {
+    ask(rooms[ADDRESSES].to_store, 0, count * sizeof(uint64_t));
+    ask(rooms[LENGTHS].to_store, 0, count * sizeof(uint32_t));
 }
 
 /* The lines of the report, one call after the other. */
@@ -188,23 +201,30 @@ static void hold_against(FILE *report, FILE *trace) {
         } else if (sscanf(line, "marker %zu", &a) == 1) {
             marker = a;
         } else if (sscanf(line, "call %127[^\n]", text) == 1) {
-            forget_all();
+            forget();
             up_to_marker(trace, false);
             up_to_marker(trace, true);
         } else if (sscanf(line, "part %zu", &command) == 1) {
-            ask(own_part, command * PART, PART);
+            ask(rooms[STORE].own, command * PART, PART);
         } else if (strcmp(line, "map\n") == 0) {
             command = MAP;
-            ask(own_values, 0, PART);
+            ask(rooms[VALUES].own, 0, PART);
         } else if (strcmp(line, "none\n") == 0) {
-            memset(held[command], false, WINDOW);
+            memset(held[command], false, ADDRESSES_OF_WINDOW);
         } else if (sscanf(line, "load %zu %zu", &a, &n) == 2) {
-            ask(window.to_load, a, n);
+            ask(rooms[WINDOW].to_load, a, n);
             memset(held[command] + a, true, n);
         } else if (sscanf(line, "deliver %zu %zu", &a, &n) == 2) {
-            ask_delivery(command, a, n);
+            ask_held(command, a, n);
+            ask(rooms[DESTINATION].to_store, 0, n);
+        } else if (sscanf(line, "entries %zu %zu", &a, &n) == 2) {
+            ask_held(command, a, n);
+        } else if (sscanf(line, "scratch %zu", &n) == 1) {
+            ask_scratch(n);
+        } else if (sscanf(line, "spans %zu", &n) == 1) {
+            ask_spans(n);
         } else if (sscanf(line, "write %zu %zu", &a, &n) == 2) {
-            ask(window.to_store, a, n);
+            ask(rooms[WINDOW].to_store, a, n);
         } else if (sscanf(line, "hold %zu %zu", &a, &n) == 2) {
             ask_holding(command, a, n);
         } else if (sscanf(line, "reply %d %zu %zu %u", &right, &fresh, &replayed, &status) == 4) {

@@ -14,7 +14,11 @@
  *     write A N             the window's bytes that it stores, each of them once
  *     hold A N              the command holds these bytes from here on, which it was given: it stores their places of the store, or
  *                           of the values
- *     reply OK FRESH REPLAYED STATUS    what it replied; OK is 1 if reply and delivered bytes are those of the model
+ *     entries A N           these bytes are page entries: it loads the places of the store that have them
+ *     scratch N             it stores all N bytes of the scratch, which it may load too
+ *     spans N               it stores the first N places of the addresses and of the lengths
+ *     reply OK FRESH REPLAYED STATUS    what it replied, or, of a walk, how many bytes of its entries are to be fresh and replayed; OK
+ *                                       is 1 if reply, delivered bytes and spans are those of the model
  */
 #include <stdbool.h>
 #include <stdint.h>
@@ -25,15 +29,25 @@
 
 #define EDGE 64
 #define DESTINATION 4200
+#define SCRATCH 200
+#define PLACES 20
+#define PAGE ((size_t)DOORCLOVER_PAGE)
+#define ENTRY sizeof(uint64_t)
 
 static _Alignas(64) uint8_t window_room[EDGE + DOORCLOVER_WINDOW + EDGE];
 static _Alignas(64) uint8_t store_room[EDGE + DOORCLOVER_STORE + EDGE];
 static _Alignas(64) uint8_t values_room[EDGE + DOORCLOVER_MAP_ADDRESSES + EDGE];
 static _Alignas(64) uint8_t destination_room[EDGE + DESTINATION + EDGE];
+static _Alignas(64) uint8_t scratch_room[EDGE + SCRATCH + EDGE];
+static _Alignas(64) uint64_t addresses_room[EDGE / sizeof(uint64_t) + PLACES + EDGE / sizeof(uint64_t)];
+static _Alignas(64) uint32_t lengths_room[EDGE / sizeof(uint32_t) + PLACES + EDGE / sizeof(uint32_t)];
 static uint8_t *const window = window_room + EDGE;
 static uint8_t *const store = store_room + EDGE;
 static uint8_t *const values = values_room + EDGE;
 static uint8_t *const destination = destination_room + EDGE;
+static uint8_t *const scratch = scratch_room + EDGE;
+static uint64_t *const addresses = addresses_room + EDGE / sizeof(uint64_t);
+static uint32_t *const lengths = lengths_room + EDGE / sizeof(uint32_t);
 static volatile uint32_t marker;
 
 /* What the next calls are lent. */
@@ -42,6 +56,8 @@ static doorclover_state *state = &whole;
 static size_t store_size = DOORCLOVER_STORE;
 static size_t window_size = DOORCLOVER_WINDOW;
 static size_t destination_size = DESTINATION;
+static size_t scratch_size = SCRATCH;
+static size_t places = PLACES;
 static uint8_t given[DOORCLOVER_TRANSFER + 1];
 
 /* The byte map, whose values stand in a room of their own, and what its next calls are lent. */
@@ -141,6 +157,109 @@ static void refused_fetch(const char *text, uint32_t status, size_t command, siz
     printf("call %s\n", text);
     doorclover_fetched r = call_fetch(command, address, length);
     reply(r.status == status && r.fresh == 0 && r.replayed == 0, r.fresh, r.replayed, r.status);
+}
+
+/* A page entry, least byte first. */
+static uint64_t entry_in(const uint8_t *from) {
+    uint64_t entry = 0;
+    for (size_t i = 0; i < ENTRY; i++) entry |= (uint64_t)from[i] << 8 * i;
+    return entry;
+}
+
+static void put_entry(size_t address, uint64_t entry) {
+    for (size_t i = 0; i < ENTRY; i++) window[address + i] = (uint8_t)(entry >> 8 * i);
+}
+
+/* The host has entries of pages in its window. */
+static void put_entries(size_t address, size_t count) {
+    for (size_t i = 0; i < count; i++) put_entry(address + ENTRY * i, (1000003 * (address + i) + 7) * PAGE);
+}
+
+/* A walk as it is asked for, and what the model makes of it. */
+struct walk {
+    size_t command;
+    uint64_t prp1, prp2;
+    size_t transfer;
+    size_t spans, fresh, listed;
+    uint64_t pages[DOORCLOVER_WALK_SPANS];
+};
+
+/* Has the command hold the entries of a list, which are pages of the walk from a span on. */
+static void hold_entries(struct walk *w, size_t address, size_t count, size_t span) {
+    w->fresh += hold(w->command, address, ENTRY * count);
+    w->listed += ENTRY * count;
+    printf("entries %zu %zu\n", address, ENTRY * count);
+    for (size_t i = 0; i < count; i++) w->pages[span + i] = entry_in(value[w->command] + address + ENTRY * i);
+}
+
+/* So many of the walk's lists are fetched. The last entry of the first one, if there is a second, is where that starts. */
+static void hold_lists(struct walk *w, size_t lists) {
+    size_t needed = (w->prp1 % PAGE + w->transfer - 1) / PAGE, fit = (PAGE - w->prp2 % PAGE) / ENTRY;
+    w->spans = 1 + needed;
+    w->pages[0] = w->prp1;
+    w->pages[1] = w->prp2;
+    if (needed > 1 && lists > 0) hold_entries(w, w->prp2, needed < fit ? needed : fit, 1);
+    if (needed > fit && lists > 1) hold_entries(w, w->pages[fit], needed - fit + 1, fit);
+}
+
+static doorclover_walked call_walk(const struct walk *w) {
+    marker = 1;
+    doorclover_walked r = doorclover_walk(state, store, store_size, window, window_size, scratch, scratch_size, addresses, places,
+                                          lengths, places, w->command, w->prp1, w->prp2, w->transfer);
+    marker = 0;
+    return r;
+}
+
+static bool given_spans(const struct walk *w) {
+    size_t sum = 0;
+    for (size_t i = 0; i < w->spans; i++) sum += lengths[i];
+    return sum == w->transfer && memcmp(addresses, w->pages, w->spans * sizeof *addresses) == 0;
+}
+
+static void walk(const char *text, struct walk w) {
+    printf("call %s\npart %zu\n", text, w.command);
+    hold_lists(&w, 2);
+    printf("scratch %d\nspans %zu\n", SCRATCH, w.spans);
+    doorclover_walked r = call_walk(&w);
+    reply(r.status == 0 && r.spans == w.spans && given_spans(&w), w.fresh, w.listed - w.fresh, r.status);
+}
+
+/* A walk that is refused from PRP1 on, when so many of its lists are fetched. */
+static void stopped_walk(const char *text, uint32_t status, size_t lists, struct walk w) {
+    printf("call %s\npart %zu\n", text, w.command);
+    hold_lists(&w, lists);
+    printf("scratch %d\n", SCRATCH);
+    doorclover_walked r = call_walk(&w);
+    reply(r.status == status && r.spans == 0, w.fresh, w.listed - w.fresh, r.status);
+}
+
+static void refused_walk(const char *text, uint32_t status, struct walk w) {
+    printf("call %s\n", text);
+    doorclover_walked r = call_walk(&w);
+    reply(r.status == status && r.spans == 0, 0, 0, r.status);
+}
+
+/* A walk of so many pages, whose list starts at an address of the window. */
+static struct walk by_list(size_t command, size_t list, size_t pages) {
+    return (struct walk){.command = command, .prp1 = 5 * PAGE - 4, .prp2 = list, .transfer = 4 + (pages - 2) * PAGE + 1};
+}
+
+/* The host has two lists: 16 entries up to the end of a page, and 16 at the front of another. */
+static void put_lists(void) {
+    put_entries(4 * PAGE - 16 * ENTRY, 16);
+    put_entries(8 * PAGE, 16);
+}
+
+/* The same, with the last entry of the first one leading onward to the second. */
+static void put_onward(void) {
+    put_lists();
+    put_entry(4 * PAGE - ENTRY, 8 * PAGE);
+}
+
+/* The host writes other bytes over both. */
+static void hide_lists(void) {
+    memset(window + 4 * PAGE - 16 * ENTRY, 0xff, 16 * ENTRY);
+    memset(window + 8 * PAGE, 0xff, 16 * ENTRY);
 }
 
 static void map_begin(const char *text) {
@@ -314,8 +433,11 @@ static void many_records(void) {
     for (size_t i = 0; i < DOORCLOVER_RECORDS; i++) fetch("-fetch 4, a single byte", 4, 2 * i + 1, 1);
     refused_fetch("fetch 4 129+1, too many records", 24, 4, 129, 1);
     change_window(6);
+    put_onward();
+    stopped_walk("walk 4, too many records", 24, 0, by_list(4, 4 * PAGE - 5 * ENTRY, 17));
     fetch("fetch 4 128+1, touching the last of 64", 4, 128, 1);
     fetch("fetch 4 1+3, over 2 records", 4, 1, 3);
+    stopped_walk("walk 4, onward to a record too many", 24, 1, by_list(4, 4 * PAGE - 5 * ENTRY, 17));
     fetch("fetch 4 1+127, over 63 records", 4, 1, 127);
     end("end 4", 4);
 }
@@ -409,6 +531,110 @@ static void refused_own_writes(void) {
     state = &whole;
     refused_own_write("own write 6 0+8, not open", 21, 6, 0, 8);
     refused_own_write("own write 5 16384+2, too many bytes", 23, 5, 16384, 2);
+}
+
+/* A walk of 17 pages that goes on in the second list when so many entries are fetched, and the same again. */
+static void onward(const char *text, size_t fit) {
+    begin("begin 6", 6);
+    put_onward();
+    walk(text, by_list(6, 4 * PAGE - fit * ENTRY, 17));
+    hide_lists();
+    walk("walk 6 again", by_list(6, 4 * PAGE - fit * ENTRY, 17));
+    fetch("fetch 6 of the second list", 6, 8 * PAGE, 12 * ENTRY);
+    end("end 6", 6);
+}
+
+static void walks(void) {
+    begin("begin 6", 6);
+    put_onward();
+    walk("walk 6, 1 page", (struct walk){.command = 6, .prp1 = PAGE + 4, .prp2 = 1, .transfer = PAGE - 4});
+    walk("walk 6, 2 pages", (struct walk){.command = 6, .prp1 = PAGE + 4, .prp2 = 2 * PAGE, .transfer = PAGE});
+    walk("walk 6, 3 pages", by_list(6, 8 * PAGE, 3));
+    walk("walk 6, 17 pages, front held", by_list(6, 8 * PAGE, 17));
+    hide_lists();
+    walk("walk 6, 17 pages again", by_list(6, 8 * PAGE, 17));
+    put_onward();
+    walk("walk 6, onward to a held list", by_list(6, 4 * PAGE - 2 * ENTRY, 17));
+    end("end 6", 6);
+    onward("walk 6, 17 pages, onward at once", 1);
+    onward("walk 6, onward from the second entry", 2);
+    onward("walk 6, onward from the last but one", 15);
+    begin("begin 6", 6);
+    put_lists();
+    walk("walk 6, as many as fit", by_list(6, 4 * PAGE - 16 * ENTRY, 17));
+    put_entries(DOORCLOVER_WINDOW - 16 * ENTRY, 16);
+    walk("walk 6, up to the window's last byte", by_list(6, DOORCLOVER_WINDOW - 16 * ENTRY, 17));
+    fetch("fetch 6, the list, the entry before", 6, 4 * PAGE - 17 * ENTRY, 17 * ENTRY);
+    end("end 6", 6);
+    begin("begin 6", 6);
+    put_onward();
+    fetch("-fetch 6, part of an entry", 6, 4 * PAGE - 4 * ENTRY + 3, 7);
+    fetch("-fetch 6, the end of the onward entry", 6, 4 * PAGE - 3, 3);
+    fetch("-fetch 6, inside the second list", 6, 8 * PAGE + 20, 50);
+    walk("walk 6, held by parts", by_list(6, 4 * PAGE - 5 * ENTRY, 17));
+    end("end 6", 6);
+}
+
+/* Walks that are refused before PRP1 is judged: they touch neither the window nor what they are lent. */
+static void refused_walks(void) {
+    struct walk w = by_list(6, 4 * PAGE - 5 * ENTRY, 17), none = w, higher = w;
+    none.transfer = 0;
+    higher.command = 8;
+    put_onward();
+    refused_walk("walk 6, not open", 21, w);
+    begin("begin 6", 6);
+    refused_walk("walk 6 of no bytes", 31, none);
+    scratch_size = DOORCLOVER_WALK_SCRATCH - 1;
+    refused_walk("walk 6, scratch too short", 10, w);
+    scratch_size = SCRATCH;
+    places = DOORCLOVER_WALK_SPANS - 1;
+    refused_walk("walk 6, too few places", 10, w);
+    places = PLACES;
+    refused_walk("walk 8, command too high", 6, higher);
+    window_size = DOORCLOVER_WINDOW + 1;
+    refused_walk("walk 6, window too long", 7, w);
+    window_size = DOORCLOVER_WINDOW;
+    store_size = DOORCLOVER_STORE - 1;
+    refused_walk("walk 6, store too short", 8, w);
+    store_size = DOORCLOVER_STORE;
+    state = &broken;
+    refused_walk("walk 6, broken state", 20, w);
+    state = &whole;
+    end("end 6", 6);
+}
+
+/* And from PRP1 on: they load the lists that are fetched by then, and a fetch of these loads nothing. */
+static void stopped_walks(void) {
+    struct walk w = by_list(6, 4 * PAGE - 5 * ENTRY, 17), first = w, list = w, far = w;
+    first.prp1++;
+    list.prp2++;
+    far.prp2 = DOORCLOVER_WINDOW;
+    begin("begin 6", 6);
+    put_onward();
+    stopped_walk("walk 6, wrong PRP1", 32, 0, first);
+    stopped_walk("walk 6, wrong PRP2", 32, 0, list);
+    stopped_walk("walk 6, list outside", 9, 0, far);
+    put_entry(4 * PAGE - 4 * ENTRY, PAGE + 8);
+    stopped_walk("walk 6, wrong entry", 32, 1, w);
+    put_onward();
+    stopped_walk("walk 6, wrong entry held", 32, 1, w);
+    end("end 6", 6);
+    begin("begin 6", 6);
+    put_entry(4 * PAGE - ENTRY, DOORCLOVER_WINDOW);
+    stopped_walk("walk 6, onward outside", 9, 1, w);
+    fetch("fetch 6 of the list", 6, 4 * PAGE - 5 * ENTRY, 5 * ENTRY);
+    end("end 6", 6);
+    begin("begin 6", 6);
+    put_onward();
+    put_entry(8 * PAGE + 11 * ENTRY, PAGE + 8);
+    stopped_walk("walk 6, wrong entry behind onward", 32, 2, w);
+    fetch("fetch 6 of the second list", 6, 8 * PAGE, 12 * ENTRY);
+    end("end 6", 6);
+    begin("begin 6", 6);
+    put_onward();
+    fetch("-fetch 6 0+4056", 6, 0, 4096 - 5 * ENTRY);
+    stopped_walk("walk 6, too many bytes", 23, 1, w);
+    end("end 6", 6);
 }
 
 static void ends(void) {
@@ -541,7 +767,18 @@ static void own_writes_refused_by_the_map(void) {
     map_end("map end");
 }
 
-/* Some calls of each kind of fetch and own write: enough to tell a wrong one. */
+/* Some walks: enough to tell a wrong one. */
+static void few_walks(void) {
+    begin("begin 6", 6);
+    put_onward();
+    walk("walk 6, onward", by_list(6, 4 * PAGE - 5 * ENTRY, 17));
+    walk("walk 6 again", by_list(6, 4 * PAGE - 5 * ENTRY, 17));
+    stopped_walk("walk 6, wrong PRP2", 32, 0, by_list(6, 4 * PAGE - 1, 17));
+    end("end 6", 6);
+    refused_walk("walk 6, not open", 21, by_list(6, 4 * PAGE - 5 * ENTRY, 17));
+}
+
+/* Some calls of each kind of fetch and own write, for the same. */
 static void few(void) {
     begin("begin 3", 3);
     fetch("fetch 3 1001+17", 3, 1001, 17);
@@ -565,23 +802,27 @@ static void few(void) {
     map_end("map end");
 }
 
-static void room(const char *name, const uint8_t *start, size_t size) {
+static void room(const char *name, const void *start, size_t size) {
     printf("room %s %zu %zu\n", name, (size_t)start, size);
 }
 
-/* driver [few] */
+/* driver [few | few-walks] */
 int main(int argc, char **argv) {
     room("window", window_room, sizeof window_room);
     room("store", store_room, sizeof store_room);
     room("values", values_room, sizeof values_room);
     room("destination", destination_room, sizeof destination_room);
+    room("scratch", scratch_room, sizeof scratch_room);
+    room("addresses", addresses_room, sizeof addresses_room);
+    room("lengths", lengths_room, sizeof lengths_room);
     printf("marker %zu\n", (size_t)&marker);
     for (size_t i = 0; i < DOORCLOVER_STATE_WORDS; i++) broken.words[i] = 65535;
     doorclover_fresh(&whole);
     doorclover_map_fresh(&map_open, map_words, values);
     change_window(1);
-    if (argc > 1 && strcmp(argv[1], "few") == 0) {
-        few();
+    if (argc > 1) {
+        if (strcmp(argv[1], "few-walks") == 0) few_walks();
+        else few();
         return 0;
     }
     of_every_length();
@@ -593,6 +834,9 @@ int main(int argc, char **argv) {
     own_writes_of_many();
     refused_own_writes();
     ends();
+    walks();
+    refused_walks();
+    stopped_walks();
     of_the_map();
     many_runs("map fetch, 1 held and 1 not by turns", 1, 2);
     many_runs("map fetch, 1 held and 2 not by turns", 1, 3);

@@ -1,8 +1,8 @@
 /*
  * A program without a C library that links the archive: a retire list whose count the host changes after it was checked, a status
- * word that a command writes and reads back, the same two with the byte map, and then calls of all kinds with made numbers, of which
- * every answer and every buffer goes into a sum. The sums are the same on every target. Its status is 0 if the bytes and the replies
- * of the first part are right.
+ * word that a command writes and reads back, the same two with the byte map, a page list that the host changes after it was walked, and
+ * then calls of all kinds with made numbers, of which every answer and every buffer goes into a sum. The sums are the same on every
+ * target. Its status is 0 if the bytes and the replies of the first part are right.
  */
 #include "doorclover.h"
 #include "machine.h"
@@ -12,6 +12,9 @@
 static doorclover_state state;
 static doorclover_map map;
 static uint8_t store[DOORCLOVER_STORE], window[16384], destination[DOORCLOVER_TRANSFER], output[32768], bytes[DOORCLOVER_TRANSFER];
+static uint8_t scratch[DOORCLOVER_WALK_SCRATCH + 40];
+static uint64_t addresses[20];
+static uint32_t lengths[20];
 static unsigned wrong;
 
 static void check(int right, const char *what) {
@@ -105,6 +108,47 @@ static void map_own_write(void) {
     check(w.status == DOORCLOVER_WINDOW_BEYOND_MAP && w.bytes == 0 && w.fresh == 0, "own write of the map with a longer window");
     doorclover_ended e = doorclover_map_end(&map.open, map.words, map.values);
     check(e.status == 0 && e.records == 1 && e.bytes == 5, "end of the map's status word");
+}
+
+static void put_entry(size_t address, uint64_t entry) {
+    for (size_t i = 0; i < 8; i++) window[address + i] = (uint8_t)(entry >> 8 * i);
+}
+
+/* A walk by command 3 of five pages: the entries of the first list's page are one of a page and one that leads onward. */
+static doorclover_walked walk_pages(void) {
+    memset(scratch, 7, sizeof scratch);
+    return doorclover_walk(&state, store, sizeof store, window, sizeof window, scratch, sizeof scratch, addresses, 20,
+                           lengths, 20, 3, 0x123456789abcdff8, 8192 - 16, 8 + 3 * 4096 + 1);
+}
+
+/* Are these the spans, and is the scratch zero? */
+static int walked(doorclover_walked r) {
+    static const uint64_t pages[] = {0x123456789abcdff8, 0xfedcba9876543000, 0, 4096, 0xfffffffffffff000};
+    int right = r.status == 0 && r.spans == 5 && lengths[0] == 8 && lengths[4] == 1;
+    for (size_t i = 0; i < 5; i++) right &= addresses[i] == pages[i] && (i % 4 == 0 || lengths[i] == 4096);
+    for (size_t i = 0; i < sizeof scratch; i++) right &= scratch[i] == 0;
+    return right;
+}
+
+/* The host changes an entry of each list between two walks, and the second one gives the same spans. */
+static void page_list(void) {
+    put_entry(8192 - 16, 0xfedcba9876543000);
+    put_entry(8192 - 8, 12288);
+    put_entry(12288, 0);
+    put_entry(12288 + 8, 4096);
+    put_entry(12288 + 16, 0xfffffffffffff000);
+    check(doorclover_begin(&state, store, sizeof store, 3).status == 0, "begin of the page list");
+    check(walked(walk_pages()), "walk");
+    put_entry(8192 - 16, 1);
+    put_entry(12288 + 8, 1);
+    check(walked(walk_pages()), "walk again");
+    doorclover_ended e = doorclover_end(&state, store, sizeof store, 3);
+    check(e.status == 0 && e.records == 2 && e.bytes == 40, "end of the page list");
+    check(doorclover_begin(&state, store, sizeof store, 3).status == 0, "second begin of the page list");
+    doorclover_walked r = walk_pages();
+    check(r.status == DOORCLOVER_ENTRY_MISALIGNED && r.spans == 0 && scratch[0] == 0, "walk of a wrong entry");
+    e = doorclover_end(&state, store, sizeof store, 3);
+    check(e.status == 0 && e.records == 1 && e.bytes == 16, "second end of the page list");
 }
 
 /* The worked example of the log. */
@@ -204,6 +248,36 @@ static void map_write(size_t address, size_t length) {
     add_written(doorclover_map_own_write(&map.open, map.words, map.values, window, window_size, address, bytes, size));
 }
 
+/* The host's entries from an address on: mostly pages, low and high ones, and some that are none. */
+static void make_entries(size_t address) {
+    for (; address + 8 <= sizeof window && made(20) != 0; address += 8) {
+        uint64_t entry = (uint64_t)made(1 << 20) << 12;
+        if (made(2) == 0) entry <<= 32;
+        put_entry(address, made(100) == 0 ? entry + 8 : entry);
+    }
+}
+
+/* Lists stand at the ends of pages, and most lead onward to the front of one, so that there are walks of all kinds. */
+static void walk(size_t command) {
+    size_t fit = 1 + made(20), prp2 = 4096 * (1 + made(4)) - 8 * fit, next = 4096 * made(4);
+    make_entries(prp2);
+    make_entries(next);
+    if (made(8) != 0) put_entry(prp2 + 8 * (fit - 1), made(30) == 0 ? 16384 : next);
+    size_t prp1 = made(30) == 0 ? SIZE_MAX - made(5000) : 4 * made(5000);
+    if (made(8) == 0) prp2 = next;
+    if (made(30) == 0) prp2 = made(2) == 0 ? SIZE_MAX - 7 : prp2 + 4;
+    size_t transfer = made(40) == 0 ? 65537 * made(2) : 1 + made(made(4) == 0 ? 8192 : 65536);
+    size_t scratch_size = made(30) == 0 ? 120 + made(16) : sizeof scratch, places = made(30) == 0 ? 15 + made(4) : 20;
+    memset(scratch, (int)made(256), sizeof scratch);
+    doorclover_walked r = doorclover_walk(&state, store, sizeof store, window, sizeof window, scratch, scratch_size, addresses, places,
+                                          lengths, places, command, prp1, prp2, transfer);
+    add_number(r.status);
+    add_number(r.spans);
+    add(scratch, sizeof scratch);
+    add(addresses, sizeof addresses);
+    add(lengths, sizeof lengths);
+}
+
 /* Half of the fetches are of few bytes anywhere, so that there come to be many runs. */
 static void map_call(size_t address, size_t length) {
     size_t kind = made(120);
@@ -226,7 +300,7 @@ static void map_call(size_t address, size_t length) {
 
 static void made_call(void) {
     size_t command = made(40) == 0 ? 8 + made(3) : made(3), address = made_address(), length = made_length();
-    switch (made(15)) {
+    switch (made(17)) {
     case 0: {
         add_number(doorclover_begin(&state, store, sizeof store - (made(30) == 0), command).status);
         break;
@@ -251,6 +325,8 @@ static void made_call(void) {
     case 5:
     case 6:
     case 7: map_call(address, length); break;
+    case 8:
+    case 9: walk(command); break;
     default: fetch(command, address, length);
     }
 }
@@ -308,6 +384,7 @@ int run(void) {
     own_write();
     byte_map();
     map_own_write();
+    page_list();
     journal();
     made_calls();
     put(wrong == 0 ? "right\n" : "WRONG\n");

@@ -11,20 +11,21 @@
 
 #include "doorclover.h"
 
-#define LINES 4000
+#define LINES 8000
 #define WORDS 200
 #define DATA 80000
 
-enum { STORE, WINDOW, DESTINATION, OUTPUT, BUFFERS };
-static const char *const names[BUFFERS] = {"store", "window", "destination", "output"};
-static const size_t sizes[BUFFERS] = {65536, 131073, 10000, 10000};
-static const size_t usual[BUFFERS] = {32768, 65536, 4200, 4200};
+/* The last two are a walk's lists: their sizes are in bytes, and what is lent is in places. */
+enum { STORE, WINDOW, DESTINATION, OUTPUT, SCRATCH, ADDRESSES, LENGTHS, BUFFERS };
+static const char *const names[BUFFERS] = {"store", "window", "destination", "output", "scratch", "addresses", "lengths"};
+static const size_t sizes[BUFFERS] = {65536, 131073, 10000, 10000, 300, 40 * sizeof(uint64_t), 40 * sizeof(uint32_t)};
+static const size_t usual[BUFFERS] = {32768, 65536, 4200, 4200, 128, 17, 17};
 
-/* What the calls are made on. */
+/* What the calls are made on; each buffer is aligned for the numbers of a list. */
 struct ground {
     doorclover_state state;
     doorclover_map map;
-    uint8_t bytes[BUFFERS][131073];
+    _Alignas(8) uint8_t bytes[BUFFERS][131080];
     size_t lent[BUFFERS];
 };
 static struct ground ground, kept;
@@ -111,6 +112,26 @@ static size_t buffer(void) {
     return 0;
 }
 
+/* Puts a page entry, least byte first, and returns where the next one goes. */
+static uint8_t *put_entry(uint8_t *to, uint64_t entry) {
+    for (size_t i = 0; i < 8; i++) *to++ = (uint8_t)(entry >> 8 * i);
+    return to;
+}
+
+/* A line that puts page entries into the window: those that it has, or so many by the first one and a step. */
+static bool entry_setting(void) {
+    bool stepped = strcmp(words[0], "prps") == 0;
+    if (!stepped && strcmp(words[0], "prp") != 0) return false;
+    uint8_t *to = ground.bytes[WINDOW] + number();
+    if (stepped) {
+        uint64_t count = number(), entry = number(), step = number();
+        for (; count > 0; count--, entry += step) to = put_entry(to, entry);
+    } else {
+        while (more_words()) to = put_entry(to, number());
+    }
+    return true;
+}
+
 /* A line that sets a part of the byte map. */
 static bool map_setting(void) {
     const char *name = words[0];
@@ -152,7 +173,7 @@ static bool setting(void) {
         return true;
     }
     bool all = strcmp(name, "command") == 0, one = strcmp(name, "entry") == 0, some = strcmp(name, "entries") == 0;
-    if (!all && !one && !some && strcmp(name, "words") != 0) return map_setting();
+    if (!all && !one && !some && strcmp(name, "words") != 0) return entry_setting() || map_setting();
     uint16_t *to = ground.state.words + DOORCLOVER_COMMAND_WORDS * number();
     uint64_t first = number();
     if (all) {
@@ -212,6 +233,15 @@ static int map_call(uint64_t *answer, uint64_t seed) {
     return -1;
 }
 
+/* Makes the walk of the line. */
+static int walk_call(uint64_t *answer) {
+    uint64_t c = number(), prp1 = number(), prp2 = number(), transfer = number();
+    doorclover_walked r = doorclover_walk(&ground.state, LENT(STORE), LENT(WINDOW), LENT(SCRATCH),
+                                          (uint64_t *)(void *)ground.bytes[ADDRESSES], ground.lent[ADDRESSES],
+                                          (uint32_t *)(void *)ground.bytes[LENGTHS], ground.lent[LENGTHS], c, prp1, prp2, transfer);
+    ANSWER(r.status, r.spans);
+}
+
 /* Makes the call of the line and returns how many numbers its answer has, or -1 if it is no call. */
 static int call(uint64_t *answer, uint64_t seed) {
     const char *name = words[0];
@@ -247,6 +277,7 @@ static int call(uint64_t *answer, uint64_t seed) {
         ANSWER(r.status, r.length);
     }
     if (strncmp(name, "map-", 4) == 0) return map_call(answer, seed);
+    if (strcmp(name, "walk") == 0) return walk_call(answer);
     c = number();
     if (strcmp(name, "begin") == 0) ANSWER(doorclover_begin(state, LENT(STORE), c).status);
     if (strcmp(name, "end") == 0) {

@@ -1,4 +1,5 @@
-//! The calls. A refusal is its number, the lowest that applies.
+//! The calls. A refusal is its number, the lowest that applies, of a walk the
+//! first that is found.
 //!
 //! A [`Cache`] that is `CHECKED` looks at its whole state at every call, as one
 //! must that gets the state from somebody else. The other relies on owning it.
@@ -7,6 +8,7 @@ use crate::meeting::{passed, Meeting};
 use crate::state::{
     end, held, start, Command, Record, State, COMMANDS, HELD, RECORDS, STORE, TRANSFER, WINDOW,
 };
+use crate::walk::{take, Lists, Transfer, ENTRIES, ENTRY, SCRATCH};
 
 /// Two numbers of a reply.
 pub type Counts = (usize, usize);
@@ -155,13 +157,52 @@ impl<const CHECKED: bool> Cache<CHECKED> {
         }
         let entry = &mut self.state.commands[command];
         let part = part(store, command);
-        let read = |gap: &mut [u8], from: usize| {
-            gap.copy_from_slice(&window[from..][..gap.len()]);
-        };
+        let read = |gap: &mut [u8], from: usize| read(window, gap, from);
         let (place, fresh) = hold(entry, part, address, address + length, read)?;
         destination[..length].copy_from_slice(&part[place..][..length]);
         Ok((fresh, length - fresh))
     }
+
+    /// Replies the number of spans. The state is checked once, and the entries are
+    /// taken from where they are held.
+    #[inline(never)]
+    pub fn walk(
+        &mut self,
+        store: &mut [u8],
+        window: &[u8],
+        scratch: &mut [u8],
+        lists: Lists,
+        command: usize,
+        transfer: &Transfer,
+    ) -> Result<usize, u8> {
+        transfer.check()?;
+        refuse(10, scratch.len() < SCRATCH || lists.are_short())?;
+        refuse(6, command >= COMMANDS)?;
+        refuse(7, window.len() > WINDOW)?;
+        refuse(8, store.len() != STORE)?;
+        self.check()?;
+        self.opened(command)?;
+        let entry = &mut self.state.commands[command];
+        let part = part(store, command);
+        let mut entries = [0; ENTRIES];
+        let behind = &mut entries[..transfer.pages() - 1];
+        let followed = transfer.follow(behind, |address, entries| {
+            let length = ENTRY * entries.len();
+            refuse(9, outside(window, address, length))?;
+            let read = |gap: &mut [u8], from: usize| read(window, gap, from);
+            let (place, _) = hold(entry, part, address, address + length, read)?;
+            take(&part[place..][..length], entries)
+        });
+        scratch.fill(0);
+        followed?;
+        lists.addresses[1..][..behind.len()].copy_from_slice(behind);
+        Ok(lists.put(transfer))
+    }
+}
+
+/// Fills a gap with the window's bytes from an address on.
+fn read(window: &[u8], gap: &mut [u8], from: usize) {
+    gap.copy_from_slice(&window[from..][..gap.len()]);
 }
 
 /// Holds a span of a byte or more, whose gaps are filled by address, and answers

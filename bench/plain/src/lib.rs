@@ -4,6 +4,7 @@
 //!
 //! - [`state`]: the records, and whether they hold together.
 //! - [`calls`]: the calls, with a check of the state at each and without.
+//! - [`walk`]: the entries and spans of a walk, and one without any cache.
 //! - [`byte_map`]: the byte map, with a check of the map at each call and without.
 //! - [`meeting`]: a span among records.
 //! - [`frames`]: the reader of frames.
@@ -17,3 +18,4 @@ pub mod journal;
 mod meeting;
 pub mod state;
 mod text;
+pub mod walk;

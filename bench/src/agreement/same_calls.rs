@@ -7,14 +7,15 @@ use peers::bitmap::Bitmap;
 use peers::ranges::Ranges;
 use plain::state::{Record, STORE};
 use sampling::generator::Generator;
-use sampling::spans;
 
-use super::source::{Source, Spans};
+use super::drawn::{any_call, any_calls, source};
+use super::parties::{told, Pair, Party, Three};
+use super::source::Source;
 use crate::answer::Answer;
-use crate::call::{make, Call, Last};
+use crate::call::Call;
 use crate::cases::{Case, Subject};
-use crate::memory::{store_of, Memory, WINDOW};
-use crate::programs::{Cache, Ordinary, Proved, Stateful};
+use crate::memory::WINDOW;
+use crate::programs::Stateful;
 
 /// So many random lists are made of so many calls.
 const LISTS: u64 = 300;
@@ -49,18 +50,6 @@ const STORES: [usize; 3] = [0, 32_768, 32_769];
 const DESTINATIONS: [usize; 3] = [0, 20, 4_096];
 const ON_EACH: usize = 300;
 
-/// The ways in which lists choose their spans.
-const SPANS: [Spans; 8] = [
-    (spans::any_size, WINDOW as u64),
-    (spans::touching, 600),
-    (spans::at_the_end, WINDOW as u64),
-    (spans::overlapping, 2_000),
-    (spans::medium, 3_000),
-    (spans::large, 9_000),
-    (spans::every_other, 260),
-    (spans::small, 1_500),
-];
-
 /// The call at which something is not the same.
 pub fn difference(cases: &[Case]) -> Option<String> {
     let of_case = |case: &Case| match &case.subject {
@@ -71,7 +60,7 @@ pub fn difference(cases: &[Case]) -> Option<String> {
         Subject::Journals { .. } => None,
     };
     let of_seed = |seed| {
-        let mut source = Source::new(seed, &SPANS);
+        let mut source = source(seed);
         Scene::default().differ((0..CALLS).map(|_| any_call(&mut source)))
     };
     cases
@@ -84,44 +73,10 @@ pub fn difference(cases: &[Case]) -> Option<String> {
         .or_else(other_lengths)
 }
 
-/// A program with its buffers.
-struct Party<C> {
-    cache: C,
-    memory: Memory,
-}
-
-impl<C: Cache> Default for Party<C> {
-    fn default() -> Party<C> {
-        Party {
-            cache: C::new(),
-            memory: Memory::new(),
-        }
-    }
-}
-
-impl<C: Cache> Party<C> {
-    fn make(&mut self, call: Call) -> Answer {
-        let mut last = Last(Answer::Unknown);
-        make(&mut self.cache, &mut self.memory, call, &mut last);
-        last.0
-    }
-}
-
-impl<C: Stateful> Party<C> {
-    /// Whether another has the same state and buffers.
-    fn is_like<D: Stateful>(&mut self, other: &mut Party<D>) -> bool {
-        self.memory == other.memory
-            && self.cache.words() == other.cache.words()
-            && self.cache.store() == other.cache.store()
-    }
-}
-
 /// All programs side by side.
 #[derive(Default)]
 struct Scene {
-    proved: Party<Proved>,
-    checked: Party<Ordinary<true>>,
-    unchecked: Party<Ordinary<false>>,
+    three: Three,
     ranges: Party<Ranges>,
     bitmap: Party<Bitmap>,
 }
@@ -129,67 +84,40 @@ struct Scene {
 impl Scene {
     fn differ(&mut self, list: impl IntoIterator<Item = Call>) -> Option<String> {
         let mut list = list.into_iter();
-        list.find_map(|call| self.step(call))
+        list.find_map(|call| self.step(call).err())
     }
 
-    /// Makes a call on all, and tells what is not the same.
-    fn step(&mut self, call: Call) -> Option<String> {
-        let answer = self.proved.make(call);
-        let same = self.checked.make(call) == answer
-            && self.unchecked.make(call) == answer
-            && self.proved.is_like(&mut self.checked)
-            && self.proved.is_like(&mut self.unchecked);
+    /// Makes a call on all. Answers the same, or tells what is not.
+    fn step(&mut self, call: Call) -> Result<Answer, String> {
+        let answer = self.three.step(call)?;
         let refused = matches!(answer, Answer::Refused(_));
-        let same = same && (refused || self.peers_agree(call, answer));
-        (!same).then(|| format!("{call:?}, answered with {answer:?}"))
+        told(refused || self.peers_agree(call, answer), call, answer)
     }
 
     fn peers_agree(&mut self, call: Call, answer: Answer) -> bool {
+        let memory = &self.three.pair.proved.memory;
         answer.is_met_by(self.ranges.make(call))
             && answer.is_met_by(self.bitmap.make(call))
-            && self.proved.memory == self.ranges.memory
-            && self.proved.memory == self.bitmap.memory
+            && *memory == self.ranges.memory
+            && *memory == self.bitmap.memory
     }
 }
 
-/// The two programs that check everything.
-#[derive(Default)]
-struct Pair {
-    proved: Party<Proved>,
-    checked: Party<Ordinary<true>>,
-}
-
-impl Pair {
-    /// Makes a random call on both, and tells what is not the same.
-    fn step(&mut self, source: &mut Source) -> Option<String> {
-        let call = any_call(source);
-        let answer = self.proved.make(call);
-        let same = self.checked.make(call) == answer && self.proved.is_like(&mut self.checked);
-        (!same).then(|| format!("{call:?}, answered with {answer:?}"))
-    }
-
-    fn set_words(&mut self, words: &Words) {
-        self.proved.cache.set_words(words);
-        self.checked.cache.set_words(words);
-    }
-
-    fn set_lengths(&mut self, window: usize, store: usize, destination: usize) {
-        let memory = Memory::sized(window, destination);
-        (self.proved.memory, self.checked.memory) = (memory.clone(), memory);
-        *self.proved.cache.store() = store_of(store);
-        *self.checked.cache.store() = store_of(store);
-    }
+/// Makes random calls on both, walks among them, and tells what is not the same.
+fn step(pair: &mut Pair, source: &mut Source) -> Option<String> {
+    let mut calls = any_calls(source).into_iter();
+    calls.find_map(|call| pair.step(call).err())
 }
 
 /// A list, then a change of the state that may break it, and calls on that.
 fn changed(seed: u64) -> Option<String> {
-    let mut source = Source::new(seed, &SPANS);
+    let mut source = source(seed);
     let mut pair = Pair::default();
-    let before = (0..BEFORE).find_map(|_| pair.step(&mut source));
+    let before = (0..BEFORE).find_map(|_| step(&mut pair, &mut source));
     let mut words = pair.proved.cache.words();
     change(&mut words, &mut source.numbers);
     pair.set_words(&words);
-    before.or_else(|| (0..AFTER).find_map(|_| pair.step(&mut source)))
+    before.or_else(|| (0..AFTER).find_map(|_| step(&mut pair, &mut source)))
 }
 
 /// Calls on a state that has these records in its first command.
@@ -212,18 +140,18 @@ fn with_mark(mark: u16) -> Option<String> {
 }
 
 fn on_words(words: &Words) -> Option<String> {
-    let mut source = Source::new(0, &SPANS);
+    let mut source = source(0);
     let mut pair = Pair::default();
     pair.set_words(words);
-    (0..AFTER).find_map(|_| pair.step(&mut source))
+    (0..AFTER).find_map(|_| step(&mut pair, &mut source))
 }
 
 /// Lists on buffers of other lengths, in a state that calls of the usual
 /// lengths have left.
 fn other_lengths() -> Option<String> {
-    let mut source = Source::new(0, &SPANS);
+    let mut source = source(0);
     let mut pair = Pair::default();
-    let mut step = |pair: &mut Pair| pair.step(&mut source);
+    let mut step = |pair: &mut Pair| step(pair, &mut source);
     for window in WINDOWS {
         for store in STORES {
             for destination in DESTINATIONS {
@@ -255,39 +183,5 @@ fn change(words: &mut Words, numbers: &mut Generator) {
             2 => word.wrapping_add(1),
             _ => word.wrapping_sub(1),
         };
-    }
-}
-
-/// A call of any kind, mostly on two commands.
-fn any_call(source: &mut Source) -> Call {
-    let command = any_command(&mut source.numbers);
-    let (address, length) = source.span();
-    match source.numbers.below(60) {
-        0 => Call::End { command },
-        1..=5 => Call::Begin { command },
-        6..=7 => Call::HostWrite { address, length },
-        8..=13 => Call::OwnWrite {
-            command,
-            address,
-            length,
-        },
-        14..=15 => Call::Show {
-            command,
-            index: source.numbers.below(20) as usize,
-        },
-        _ => Call::Fetch {
-            command,
-            address,
-            length,
-        },
-    }
-}
-
-fn any_command(numbers: &mut Generator) -> usize {
-    match numbers.below(40) {
-        0 => 8,
-        1 => usize::MAX,
-        2..=5 => numbers.below(8) as usize,
-        _ => numbers.below(2) as usize,
     }
 }

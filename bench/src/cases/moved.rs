@@ -1,7 +1,7 @@
 //! How many bytes of payload a case moves: a fresh byte goes into the store and
 //! to the destination, a replayed one to the destination, one that the host
 //! writes into the window, and one that a command writes into the store and the
-//! window.
+//! window. The spans of a walk go into its lists.
 
 use crate::answer::Answer;
 use crate::call::{make, Call, Last};
@@ -9,6 +9,9 @@ use crate::cases::{Case, Subject};
 use crate::memory::{Desk, Memory};
 use crate::programs::{Cache, Ordinary};
 use plain::journal::replay;
+
+/// The bytes of a span: an address and a length.
+const SPAN: usize = 12;
 
 /// The bytes that the calls or frames of interest of a case move.
 pub fn by_case(case: &Case) -> usize {
@@ -37,6 +40,7 @@ fn by_call(call: Call, answer: Answer) -> usize {
         (Call::Fetch { .. }, Answer::Numbers(fresh, replayed)) => 2 * fresh + replayed,
         (Call::HostWrite { .. }, Answer::Numbers(bytes, _)) => bytes,
         (Call::OwnWrite { .. }, Answer::Numbers(bytes, _)) => 2 * bytes,
+        (Call::Walk { .. }, Answer::Numbers(spans, _)) => SPAN * spans,
         _ => 0,
     }
 }

@@ -2,6 +2,7 @@
 
 use boundary::ByteMap;
 use plain::byte_map::{ByteMap as Plain, ADDRESSES};
+use plain::walk::Transfer;
 
 use super::Cache;
 use crate::answer::Answer;
@@ -114,7 +115,8 @@ impl<const CHECKED: bool> Map for Plain<CHECKED> {
 }
 
 /// A byte map in the place of the one command that is measured. It gets the front
-/// of the window, as much as it has addresses for, and has no records to show.
+/// of the window, as much as it has addresses for, has no records to show and
+/// makes no walks.
 pub struct OneCommand<M>(Box<M>);
 
 impl<M: Map> Cache for OneCommand<M> {
@@ -157,6 +159,15 @@ impl<M: Map> Cache for OneCommand<M> {
     }
 
     fn show(&mut self, _command: usize, _index: usize) -> impl Into<Answer> {
+        Answer::Unknown
+    }
+
+    fn walk(
+        &mut self,
+        _memory: &mut Memory,
+        _command: usize,
+        _transfer: &Transfer,
+    ) -> impl Into<Answer> {
         Answer::Unknown
     }
 }

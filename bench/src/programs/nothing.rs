@@ -1,6 +1,8 @@
 //! A program that does nothing. What its calls cost is the cost of making
 //! calls, which is taken off all others.
 
+use plain::walk::Transfer;
+
 use super::Cache;
 use crate::answer::Answer;
 use crate::memory::Memory;
@@ -45,4 +47,12 @@ impl Cache for Nothing {
     }
 
     fn show(&mut self, _command: usize, _index: usize) -> impl Into<Answer> {}
+
+    fn walk(
+        &mut self,
+        _memory: &mut Memory,
+        _command: usize,
+        _transfer: &Transfer,
+    ) -> impl Into<Answer> {
+    }
 }

@@ -1,17 +1,19 @@
-//! The plain program with a store.
+//! The plain program with a store and a scratch.
 
 use boundary::Words;
 use plain::calls::{host_write, Cache as Plain};
 use plain::state::State;
+use plain::walk::Transfer;
 
 use super::{Cache, Stateful};
 use crate::answer::Answer;
 use crate::buffer::Buffer;
-use crate::memory::{store, Memory};
+use crate::memory::{scratch, store, Memory};
 
 pub struct Ordinary<const CHECKED: bool> {
     cache: Box<Plain<CHECKED>>,
     store: Buffer,
+    scratch: Buffer,
 }
 
 impl<const CHECKED: bool> Cache for Ordinary<CHECKED> {
@@ -19,6 +21,7 @@ impl<const CHECKED: bool> Cache for Ordinary<CHECKED> {
         Ordinary {
             cache: Box::new(Plain::fresh()),
             store: store(),
+            scratch: scratch(),
         }
     }
 
@@ -65,6 +68,18 @@ impl<const CHECKED: bool> Cache for Ordinary<CHECKED> {
     fn show(&mut self, command: usize, index: usize) -> impl Into<Answer> {
         self.cache.show(command, index)
     }
+
+    fn walk(
+        &mut self,
+        memory: &mut Memory,
+        command: usize,
+        transfer: &Transfer,
+    ) -> impl Into<Answer> {
+        let (window, lists) = memory.walk();
+        let (store, scratch) = (&mut self.store, &mut self.scratch);
+        self.cache
+            .walk(store, window, scratch, lists, command, transfer)
+    }
 }
 
 impl<const CHECKED: bool> Stateful for Ordinary<CHECKED> {
@@ -78,5 +93,9 @@ impl<const CHECKED: bool> Stateful for Ordinary<CHECKED> {
 
     fn store(&mut self) -> &mut Buffer {
         &mut self.store
+    }
+
+    fn scratch(&mut self) -> &mut Buffer {
+        &mut self.scratch
     }
 }

@@ -1,15 +1,17 @@
-//! The proved library with a state and a store.
+//! The proved library with a state, a store and a scratch.
 
 use boundary::{Words, WORDS};
+use plain::walk::Transfer;
 
 use super::{Cache, Stateful};
 use crate::answer::Answer;
 use crate::buffer::Buffer;
-use crate::memory::{store, Memory};
+use crate::memory::{scratch, store, Memory};
 
 pub struct Proved {
     state: Box<Words>,
     store: Buffer,
+    scratch: Buffer,
 }
 
 impl Cache for Proved {
@@ -17,6 +19,7 @@ impl Cache for Proved {
         Proved {
             state: Box::new([0; WORDS]),
             store: store(),
+            scratch: scratch(),
         }
     }
 
@@ -62,6 +65,26 @@ impl Cache for Proved {
     fn show(&mut self, command: usize, index: usize) -> impl Into<Answer> {
         boundary::show(&self.state, command, index)
     }
+
+    fn walk(
+        &mut self,
+        memory: &mut Memory,
+        command: usize,
+        transfer: &Transfer,
+    ) -> impl Into<Answer> {
+        boundary::walk(
+            &mut self.state,
+            &mut self.store,
+            &memory.window,
+            &mut self.scratch,
+            &mut memory.addresses,
+            &mut memory.lengths,
+            command,
+            transfer.prp1,
+            transfer.prp2,
+            transfer.length,
+        )
+    }
 }
 
 impl Stateful for Proved {
@@ -75,5 +98,9 @@ impl Stateful for Proved {
 
     fn store(&mut self) -> &mut Buffer {
         &mut self.store
+    }
+
+    fn scratch(&mut self) -> &mut Buffer {
+        &mut self.scratch
     }
 }

@@ -1,8 +1,9 @@
-//! What people would write instead, as caches. They know no refusals, and
-//! a host write is no more than a copy.
+//! What people would write instead, as caches. They know no refusals but those of
+//! a walk's entries, and a host write is no more than a copy.
 
 use peers::bitmap::Bitmap;
 use peers::ranges::Ranges;
+use plain::walk::{take, walk_by, Transfer, ENTRIES, ENTRY};
 
 use super::Cache;
 use crate::answer::Answer;
@@ -49,6 +50,17 @@ impl Cache for Ranges {
     fn show(&mut self, command: usize, index: usize) -> impl Into<Answer> {
         Ranges::show(self, command, index).ok_or(25)
     }
+
+    fn walk(
+        &mut self,
+        memory: &mut Memory,
+        command: usize,
+        transfer: &Transfer,
+    ) -> impl Into<Answer> {
+        walk(memory, transfer, |window, bytes, address| {
+            Ranges::fetch(self, window, bytes, command, address);
+        })
+    }
 }
 
 /// It keeps no records, so it can show none, nor count them at the end.
@@ -93,4 +105,32 @@ impl Cache for Bitmap {
     fn show(&mut self, _command: usize, _index: usize) -> impl Into<Answer> {
         Answer::Unknown
     }
+
+    fn walk(
+        &mut self,
+        memory: &mut Memory,
+        command: usize,
+        transfer: &Transfer,
+    ) -> impl Into<Answer> {
+        walk(memory, transfer, |window, bytes, address| {
+            Bitmap::fetch(self, window, bytes, command, address);
+        })
+    }
+}
+
+/// A walk whose entries are fetched, from a window into bytes at an address. It
+/// stays a call, as those of the plain program do.
+#[inline(never)]
+fn walk(
+    memory: &mut Memory,
+    transfer: &Transfer,
+    mut fetch: impl FnMut(&[u8], &mut [u8], usize),
+) -> Result<usize, u8> {
+    let (window, lists) = memory.walk();
+    walk_by(lists, transfer, |address, entries| {
+        let mut bytes = [0; ENTRY * ENTRIES];
+        let bytes = &mut bytes[..ENTRY * entries.len()];
+        fetch(window, bytes, address);
+        take(bytes, entries)
+    })
 }

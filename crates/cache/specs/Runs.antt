@@ -4,6 +4,7 @@ use mathlib.Core.List.{List, [], _∷_}
 use mathlib.Core.Bool.{cond}
 use lib.ListN.{length, take}
 use Rattle.state.specs.State.{State, freshState}
+use Rattle.state.specs.Words.{stateOf}
 use Rattle.state.specs.Verdict.{Reply, accepted}
 use Rattle.cache.specs.Begin.{beginSays, beginState, beginStore}
 use Rattle.cache.specs.Fetch.{fetchSays, fetchState, fetchStore, fetchDest}
@@ -30,6 +31,10 @@ pub record Machine : Type 0 where
 -- what the first call gets: the fresh state, and a store of which nothing is asked
 abbrev pub start : List ℕ → Machine
 start store = record { state = freshState; store = store }
+
+-- every state and store that a call can be given: any words, and any bytes
+abbrev pub given : (words store : List ℕ) → Machine
+given words store = record { state = stateOf words; store = store }
 
 -- 01's answer
 abbrev pub says : Machine → Call → Reply

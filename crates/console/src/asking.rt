@@ -7,8 +7,8 @@ use crate::saying::tell;
 use crate::saying::within;
 use libc::PATH_MAX;
 use libc::STDIN_FILENO;
-use notes::quote;
 use octets::put;
+use quoting::quote;
 
 // The most bytes of a file name.
 const NAME: usize = PATH_MAX - 1;

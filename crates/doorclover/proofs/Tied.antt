@@ -4,8 +4,7 @@ use mathlib.Core.Path.{_≡_, refl}
 use mathlib.Core.List.{List}
 use Rattle.state.specs.State.{State}
 use Rattle.state.specs.Words.{stateOf}
-use Rattle.cache.specs.Runs.{Machine}
-use Rattle.history.specs.Claims.{given}
+use Rattle.cache.specs.Runs.{Machine, given}
 use Rattle.doorclover.specs.Calls.{CallsTied}
 
 -- a machine by its state and its store

@@ -13,8 +13,7 @@ use Rattle.cache.specs.End.{endSays, endState, endStore}
 use Rattle.cache.specs.HostWrite.{hostSays, hostWindow}
 use Rattle.cache.specs.OwnWrite.{ownSays, ownState, ownStore, ownWindow}
 use Rattle.cache.specs.Show.{showSays}
-use Rattle.cache.specs.Runs.{begin, fetch, end, hostWrite, ownWrite, show, Machine, says, after, destAfter, windowAfter}
-use Rattle.history.specs.Claims.{given}
+use Rattle.cache.specs.Runs.{begin, fetch, end, hostWrite, ownWrite, show, Machine, given, says, after, destAfter, windowAfter}
 use Rattle.replies.specs.declared.calls.Begun.{Begun}
 use Rattle.replies.specs.declared.calls.Ended.{Ended}
 use Rattle.replies.specs.declared.calls.Fetched.{Fetched}

@@ -1,3 +1,4 @@
 pub mod Calls
 pub mod Map
 pub mod Journal
+pub mod Walk

@@ -2,6 +2,7 @@
 // the call says. A journal has no status, since every journal is run.
 mod frame;
 mod map;
+mod page_walk;
 mod records;
 mod release;
 mod run;
@@ -13,6 +14,7 @@ pub use map::doorclover_map_end;
 pub use map::doorclover_map_fetch;
 pub use map::doorclover_map_fresh;
 pub use map::doorclover_map_own_write;
+pub use page_walk::doorclover_walk;
 pub use records::doorclover_begin;
 pub use records::doorclover_end;
 pub use records::doorclover_fetch;

@@ -67,7 +67,7 @@ pub extern "C" fn doorclover_end(
 pub extern "C" fn doorclover_host_write(window: &mut [u8], address: usize, bytes: &[u8]) -> Written
     ensures { λ r. ⌜ HostWrites (now (window .entry)) address (now (bytes .entry)) r (now (window .exit)) ⌝ }
 {
-    write_reply(calls::host_write::host_write(window, address, bytes))
+    write_reply(hostwrite::host_write(window, address, bytes))
 }
 
 #[no_mangle]
@@ -92,5 +92,5 @@ pub extern "C" fn doorclover_show(
 ) -> Shown
     ensures { λ r. ⌜ Shows (now (state .entry)) command index r ⌝ }
 {
-    show_reply(calls::show::show(state, command, index))
+    show_reply(show::show(state, command, index))
 }

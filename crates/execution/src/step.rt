@@ -101,7 +101,7 @@ pub(crate) fn make(
             delivered: 0,
         },
         Step::HostWrite { address, .. } => Made {
-            answer: written(calls::host_write::host_write(window, address, bytes)),
+            answer: written(hostwrite::host_write(window, address, bytes)),
             delivered: 0,
         },
         Step::OwnWrite {

@@ -43,7 +43,7 @@ fn say_failed(number: usize, expected: &[u8], answer: &[u8]) {
     let next = put(&mut note, next, b": expected ");
     let next = put_trimmed(&mut note, next, expected);
     let next = put(&mut note, next, b", but ");
-    let next = notes::quote(&mut note, next, answer);
+    let next = quoting::quote(&mut note, next, answer);
     let next = put(&mut note, next, b"\n");
     console::say(&note, next);
 }

@@ -80,7 +80,7 @@ fn run_frames(input: &[u8]) {
 
 // Steps that are given for frames.
 fn say_if_text(input: &[u8]) {
-    if notes::looks_like_text(input) {
+    if textlike::looks_like_text(input) {
         console::say_text(b"explain: the input looks like steps; leave --frames out\n");
     }
 }
@@ -119,7 +119,7 @@ fn refused(tally: Tally) -> usize {
 fn sum_up(tally: Tally) {
     let mut note = [0u8; console::NOTE];
     let next = put(&mut note, 0, b"explain: ");
-    let next = notes::put_run(
+    let next = counting::put_run(
         &mut note,
         next,
         tally.frames,
@@ -128,7 +128,7 @@ fn sum_up(tally: Tally) {
         tally.early,
     );
     let next = put_expected(&mut note, next, tally.held, tally.failed);
-    let next = notes::put_lost(
+    let next = counting::put_lost(
         &mut note,
         next,
         b", output lost from line ",
@@ -145,7 +145,7 @@ fn put_expected(note: &mut [u8], at: usize, held: usize, failed: usize) -> usize
         return at;
     }
     let next = put(note, at, b", ");
-    let next = notes::put_count(note, next, held, b"expectation");
+    let next = counting::put_count(note, next, held, b"expectation");
     let next = put(note, next, b" held, ");
     let next = text::put_decimal(note, next, failed);
     put(note, next, b" failed")

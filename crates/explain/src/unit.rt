@@ -67,7 +67,7 @@ fn put_step(line: &mut [u8], at: usize, step: &[u8]) -> usize {
 pub(crate) fn put_trimmed(line: &mut [u8], at: usize, text: &[u8]) -> usize {
     let to = lesser(words_end(text), text.len());
     let from = lesser(scan::until(text, 0, Stop::Word), to);
-    notes::quote(line, at, &text[from..to])
+    quoting::quote(line, at, &text[from..to])
 }
 
 // Where the last word of a text ends.

@@ -87,7 +87,7 @@ fn print(input: &[u8]) {
 
 // Steps that are given for frames.
 fn say_if_text(input: &[u8]) {
-    if notes::looks_like_text(input) {
+    if textlike::looks_like_text(input) {
         console::say_text(
             b"fetchlog: the input looks like steps; framewriter makes frames of steps\n",
         );
@@ -100,7 +100,7 @@ fn sum_up(printed: Printed) {
     let kept = printed.kept;
     let mut note = [0u8; console::NOTE];
     let next = put(&mut note, 0, b"fetchlog: ");
-    let next = notes::put_run(
+    let next = counting::put_run(
         &mut note,
         next,
         frames,
@@ -108,7 +108,7 @@ fn sum_up(printed: Printed) {
         printed.refused,
         printed.early,
     );
-    let next = notes::put_lost(&mut note, next, b", log lost from line ", frames, kept);
+    let next = counting::put_lost(&mut note, next, b", log lost from line ", frames, kept);
     let next = put(&mut note, next, b"\n");
     console::say(&note, next);
 }

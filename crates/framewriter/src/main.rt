@@ -133,10 +133,10 @@ fn sum_up(judged: Judged, kept: usize) {
     let frames = judged.frames;
     let mut note = [0u8; console::NOTE];
     let next = put(&mut note, 0, b"framewriter: ");
-    let next = notes::put_count(&mut note, next, frames, b"frame");
+    let next = counting::put_count(&mut note, next, frames, b"frame");
     let next = put(&mut note, next, b", ");
-    let next = notes::put_count(&mut note, next, judged.bytes, b"byte");
-    let next = notes::put_lost(&mut note, next, b", lost from frame ", frames, kept);
+    let next = counting::put_count(&mut note, next, judged.bytes, b"byte");
+    let next = counting::put_lost(&mut note, next, b", lost from frame ", frames, kept);
     let next = put(&mut note, next, b"\n");
     console::say(&note, next);
 }

@@ -35,7 +35,7 @@ through (hostWrites b e) (hostWrites d f) = hostWrites (sym b ∙ d) (sym e ∙ 
 through (ownWrites e) (ownWrites f) = ownWrites (sym e ∙ f)
 through shows shows = shows
 
-alike : (p q : Call) → commonLengths p ≡ commonLengths q → Alike p q
+pub alike : (p q : Call) → commonLengths p ≡ commonLengths q → Alike p q
 alike p q e = through (common-alike p) (rw e (common-alike q))
 
 pub data Alikes : List Call → List Call → Type 0 where

@@ -17,9 +17,9 @@ use Rattle.words.proofs.StateWords.{shape-of}
 use Rattle.store.specs.Store.{partStart}
 use Rattle.cache.specs.Fetch.{fetchDest}
 use Rattle.cache.specs.OwnWrite.{ownWindow}
-use Rattle.cache.specs.Runs.{Call, fetch, ownWrite, Machine, says, stateAfter, storeAfter, after, destAfter, windowAfter}
+use Rattle.cache.specs.Runs.{Call, fetch, ownWrite, Machine, given, says, stateAfter, storeAfter, after, destAfter, windowAfter}
 use Rattle.cache.proofs.Unchanged.{refused-same, refused-unchanged}
-use Rattle.history.specs.Claims.{given, StoreBeyond, Beyond, BeyondWritten, BeyondUnchanged}
+use Rattle.history.specs.Claims.{StoreBeyond, Beyond, BeyondWritten, BeyondUnchanged}
 use Rattle.history.proofs.Effects.{grown, packed, found, put, grownInto, fetch-after, own-after, Taken, fetch-taken, own-taken}
 use Rattle.history.proofs.Effects.{packed-fits, length-packed}
 

@@ -19,8 +19,8 @@ use Rattle.cache.specs.Fetch.{fetchDest}
 use Rattle.cache.specs.OwnWrite.{ownWindow}
 use Rattle.store.proofs.Parts.{own-bytes}
 use Rattle.cache.proofs.Accepted.{fetched-reply, own-reply}
-use Rattle.cache.specs.Runs.{fetch, ownWrite, Machine, says, destAfter, windowAfter}
-use Rattle.history.specs.Claims.{given, Empty, EmptyFetch, EmptyWritten, EmptyWrite}
+use Rattle.cache.specs.Runs.{fetch, ownWrite, Machine, given, says, destAfter, windowAfter}
+use Rattle.history.specs.Claims.{Empty, EmptyFetch, EmptyWritten, EmptyWrite}
 use Rattle.cache.proofs.Unchanged.{refused-unchanged}
 use Rattle.history.proofs.Effects.{old, packed, found, put, grownInto, fetch-after, own-after, Taken, fetch-taken, own-taken}
 

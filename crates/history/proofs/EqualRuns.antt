@@ -31,7 +31,7 @@ use Rattle.history.proofs.Values.{value, firsts-values, values-firsts, 
 twin-after : {m k : Machine} {p q : Call} → Twin m k → Alike p q → Twin (after m p) (after k q)
 twin-after {m} {k} {p} {q} T A = record { state = state-alike T A; size = length-after m p ∙ T .size ∙ sym (length-after k q) }
 
-twin : {m k : Machine} → m ≡ k → Twin m k
+pub twin : {m k : Machine} → m ≡ k → Twin m k
 twin is = record { state = ap (λ (j : Machine). j .state) is; size = ap (λ (j : Machine). length (j .store)) is }
 
 -- What twins give alike at each call is equal along the whole lists: answers and states, whatever the bytes.
@@ -67,7 +67,7 @@ owed-carries d e mem (fetching {c} {a} {n} {w} {v}) h =
     let values = owed-values (mem c) w v (span a n) h in
     (values-remember mem c a n w v values, values-firsts (mem c) w v (span a n) values)
 
-firsts-carry : Carries firstsBy owedBy
+pub firsts-carry : Carries firstsBy owedBy
 unfolding owedBy firstsBy
 firsts-carry d e mem same h = (refl, refl)
 firsts-carry d e mem (fetching {c} {a} {n} {w} {v}) h =
@@ -94,10 +94,10 @@ module _ (m : Machine) (mem : Memory) (S : Sound m mem) (c a n : ℕ) (w v : Lis
   packed-equal : packed m c a n (found m c w) ≡ packed m c a n (found m c v)
   packed-equal = map-held _ _ (grown m c a n) sees-equal
 
-accepted-alike : (m : Machine) (p q : Call) {b : Bool} → Alike p q → accepted (says m p) ≡ b → accepted (says m q) ≡ b
+pub accepted-alike : (m : Machine) (p q : Call) {b : Bool} → Alike p q → accepted (says m p) ≡ b → accepted (says m q) ≡ b
 accepted-alike m p q A e = ap accepted (sym (says-alike {m = m} {k = m} {p = p} {q = q} (twin refl) A)) ∙ e
 
-stores-alike :
+pub stores-alike :
     {m : Machine} {p q : Call} (mem : Memory) (b : Bool) → Sound m mem → Alike p q → accepted (says m p) ≡ b
     → firstsBy mem (deedOf b p) ≡ firstsBy mem (deedOf b q)
     → storeAfter m p ≡ storeAfter m q

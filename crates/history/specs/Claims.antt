@@ -13,12 +13,11 @@ use Rattle.state.specs.Limits.{heldLimit}
 use Rattle.state.specs.Records.{inSpan, addresses, total}
 use Rattle.state.specs.Runs.{runs}
 use Rattle.state.specs.State.{holds, hasShape, commandOf, recordsOf, isOpen}
-use Rattle.state.specs.Words.{stateOf}
 use Rattle.state.specs.Verdict.{refused, replied, accepted}
 use Rattle.cache.specs.Claims.{Unchanged}
 use Rattle.store.specs.Store.{partStart, location, packedBytes, from}
 use Rattle.cache.specs.Runs.{Call, begin, fetch, end, hostWrite, ownWrite, show, Machine, start, along, ran, says, stateAfter, storeAfter, after}
-use Rattle.cache.specs.Runs.{destAfter, windowAfter, delivers}
+use Rattle.cache.specs.Runs.{given, destAfter, windowAfter, delivers}
 use Rattle.history.specs.Journal.{Event, event, journal, told, backwards, Deed, began, fetched, wrote, ended, other, deed}
 use Rattle.history.specs.Firsts.{Memory, memory, valueSince, heldSince, firsts, recall, owed}
 use Rattle.history.specs.Counts.{countsReplied, countsOwed, bytesReplied, sumOwed}
@@ -204,10 +203,6 @@ pub record Alone (m : Machine) (p : Call) (d : ℕ) : Type 0 where
 
 abbrev pub Isolation : Type 0
 Isolation = (m : Machine) (p : Call) (d : ℕ) → mayChange p d ≡ false → Alone m p d
-
--- every state and store that a call can be given: any words, and any bytes
-abbrev pub given : (words store : List ℕ) → Machine
-given words store = record { state = stateOf words; store = store }
 
 -- 01's rule on length 0
 pub record Empty (m : Machine) (c a : ℕ) (dest window : List ℕ) : Type 0 where

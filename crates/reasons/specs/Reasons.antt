@@ -8,6 +8,7 @@ use Rattle.state.specs.declared.refusal.Refusal.{Refusal}
 use Rattle.state.specs.declared.refusal.Refusal.the-variants.{FrameTooShort, UnknownKind, FieldNotZero, LengthTooLong, DataMismatch, CommandTooHigh}
 use Rattle.state.specs.declared.refusal.Refusal.the-variants.{WindowTooLong, StoreWrongSize, OutsideWindow, BufferTooShort, AddressTooHigh, StateBroken}
 use Rattle.state.specs.declared.refusal.Refusal.the-variants.{CommandNotOpen, CommandAlreadyOpen, TooManyBytes, TooManyRecords, NoSuchRecord, WindowBeyondMap}
+use Rattle.state.specs.declared.refusal.Refusal.the-variants.{TransferOutOfRange, EntryMisaligned}
 
 -- the reason as a program tells it; 01 and 02 have the numbers alone
 abbrev pub reason : Refusal → String
@@ -29,6 +30,8 @@ reason TooManyBytes = "the command would hold more than 4096 bytes"
 reason TooManyRecords = "the command would have more than 64 records"
 reason NoSuchRecord = "the command has no record of this number"
 reason WindowBeyondMap = "the window is longer than 4096 bytes"
+reason TransferOutOfRange = "the transfer is not 1 to 65536 bytes"
+reason EntryMisaligned = "a page entry is not a multiple of its size"
 
 -- with blanks behind it, up to 43 characters
 abbrev pub padded : String → List ℕ

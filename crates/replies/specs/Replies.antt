@@ -8,6 +8,7 @@ use Rattle.replies.specs.declared.calls.Ended.{Ended}
 use Rattle.replies.specs.declared.calls.Fetched.{Fetched}
 use Rattle.replies.specs.declared.calls.Written.{Written}
 use Rattle.replies.specs.declared.calls.Shown.{Shown}
+use Rattle.replies.specs.declared.calls.Walked.{Walked}
 use Rattle.replies.specs.declared.frame.FrameStep.{FrameStep}
 use Rattle.replies.specs.declared.frame.Framed.{Framed}
 
@@ -35,6 +36,9 @@ writtenOf says = record { status = statusOf says; bytes = member 0 says; fresh =
 
 abbrev pub shownOf : Reply → Shown
 shownOf says = record { status = statusOf says; start = member 0 says; len = member 1 says }
+
+abbrev pub walkedOf : Reply → Walked
+walkedOf says = record { status = statusOf says; spans = member 0 says }
 
 -- the reader says the bytes taken up first, and then the numbers of the step
 abbrev pub stepOf : Reply → FrameStep

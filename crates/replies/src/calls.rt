@@ -7,9 +7,10 @@ use state::FetchAnswer;
 use state::HostWriteAnswer;
 use state::OwnWriteAnswer;
 use state::ShowAnswer;
+use state::WalkAnswer;
 ghost use mathlib.Core.Path.{_≡_};
-ghost use Rattle.state.specs.Answers.{beginReply, endReply, fetchReply, hostWriteReply, ownWriteReply, showReply};
-ghost use Rattle.replies.specs.Replies.{begunOf, endedOf, fetchedOf, writtenOf, shownOf};
+ghost use Rattle.state.specs.Answers.{beginReply, endReply, fetchReply, hostWriteReply, ownWriteReply, showReply, walkReply};
+ghost use Rattle.replies.specs.Replies.{begunOf, endedOf, fetchedOf, writtenOf, shownOf, walkedOf};
 
 #[repr(C)]
 pub struct Begun {
@@ -46,6 +47,13 @@ pub struct Shown {
     pub status: u32,
     pub start: u16,
     pub len: u16,
+}
+
+// How many spans a page walk gave.
+#[repr(C)]
+pub struct Walked {
+    pub status: u32,
+    pub spans: usize,
 }
 
 pub fn begin_reply(answer: BeginAnswer) -> Begun
@@ -140,6 +148,21 @@ pub fn show_reply(answer: ShowAnswer) -> Shown
             status: OK,
             start,
             len,
+        },
+    }
+}
+
+pub fn walk_reply(answer: WalkAnswer) -> Walked
+    ensures { λ r. ⌜ r ≡ walkedOf (walkReply answer) ⌝ }
+{
+    match answer {
+        WalkAnswer::Refused(why) => Walked {
+            status: status(why),
+            spans: 0,
+        },
+        WalkAnswer::Done(n) => Walked {
+            status: OK,
+            spans: n,
         },
     }
 }

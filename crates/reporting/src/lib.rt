@@ -18,7 +18,7 @@ fn put_place(note: &mut [u8], program: &[u8], number: usize) -> usize {
 
 fn say_line(note: &mut [u8], at: usize, line: &[u8]) {
     let next = put(note, at, b": ");
-    let next = notes::quote(note, next, line);
+    let next = quoting::quote(note, next, line);
     let next = put(note, next, b"\n");
     console::say(note, next);
 }
@@ -48,13 +48,13 @@ pub fn report(program: &[u8], number: usize, line: &[u8], framed: Framed) {
 
 // What is said last where lines are bad: how many, and what is not done. Before it stands a hint, where the input is no text.
 pub fn say_bad(program: &[u8], input: &[u8], bad: usize, hint: &[u8], undone: &[u8]) {
-    if !notes::looks_like_text(input) {
+    if !textlike::looks_like_text(input) {
         console::say_text(hint);
     }
     let mut note = [0u8; console::NOTE];
     let next = put(&mut note, 0, program);
     let next = put(&mut note, next, b": ");
-    let next = notes::put_count(&mut note, next, bad, b"bad line");
+    let next = counting::put_count(&mut note, next, bad, b"bad line");
     let next = put(&mut note, next, undone);
     console::say(&note, next);
 }

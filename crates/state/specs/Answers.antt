@@ -12,6 +12,8 @@ use Rattle.state.specs.declared.answer.HostWriteAnswer.{HostWriteAnswer}
 use Rattle.state.specs.declared.answer.HostWriteAnswer.the-variants as host
 use Rattle.state.specs.declared.answer.ShowAnswer.{ShowAnswer}
 use Rattle.state.specs.declared.answer.ShowAnswer.the-variants as show
+use Rattle.state.specs.declared.answer.WalkAnswer.{WalkAnswer}
+use Rattle.state.specs.declared.answer.WalkAnswer.the-variants as walk
 use Rattle.state.specs.Refusals.{number}
 use Rattle.state.specs.Verdict.{Reply, refused, replied}
 
@@ -38,3 +40,7 @@ hostWriteReply (host.Refused r) = refused (number r)
 abbrev pub showReply : ShowAnswer → Reply
 showReply (show.Record start len) = replied (start ∷ len ∷ [])
 showReply (show.Refused r) = refused (number r)
+
+abbrev pub walkReply : WalkAnswer → Reply
+walkReply (walk.Done spans) = replied (spans ∷ [])
+walkReply (walk.Refused r) = refused (number r)

@@ -1,4 +1,4 @@
-// What each call answers: begin, fetch, end and own write of the record engine and of the byte map alike, host write and show.
+// What each call answers: begin, fetch, end and own write of the record engine and of the byte map alike, host write, show and the page walk.
 use crate::refusal::Refusal;
 
 pub enum BeginAnswer {
@@ -32,5 +32,11 @@ pub enum HostWriteAnswer {
 
 pub enum ShowAnswer {
     Record { start: u16, len: u16 },
+    Refused(Refusal),
+}
+
+pub enum WalkAnswer {
+    // how many spans there are
+    Done(usize),
     Refused(Refusal),
 }

@@ -16,6 +16,7 @@ pub use answer::FetchAnswer;
 pub use answer::HostWriteAnswer;
 pub use answer::OwnWriteAnswer;
 pub use answer::ShowAnswer;
+pub use answer::WalkAnswer;
 pub use refusal::Refusal;
 
 // A run of held addresses. An address is below 65,536 and a record holds at most 4,096 bytes, so 16 bits serve for both.

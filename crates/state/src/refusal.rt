@@ -25,6 +25,9 @@ pub enum Refusal {
     NoSuchRecord,
     // by the byte map alone, because of the input
     WindowBeyondMap,
+    // by the page walk alone, because of the input and of what its lists hold
+    TransferOutOfRange,
+    EntryMisaligned,
 }
 
 impl Refusal {
@@ -50,6 +53,8 @@ impl Refusal {
             Refusal::TooManyRecords => 24,
             Refusal::NoSuchRecord => 25,
             Refusal::WindowBeyondMap => 30,
+            Refusal::TransferOutOfRange => 31,
+            Refusal::EntryMisaligned => 32,
         }
     }
 }

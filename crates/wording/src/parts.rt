@@ -35,7 +35,7 @@ pub(crate) struct Found {
 pub(crate) fn find(state: &[u16; CacheState::WORDS], command: usize, i: usize) -> Found
     ensures { λ r. ⌜ (r .start < 65536) × (r .len < 65536) ⌝ }
 {
-    match calls::show::show(state, command, i) {
+    match show::show(state, command, i) {
         ShowAnswer::Record { start, len } => Found {
             there: true,
             start: wide(start),

@@ -3,3 +3,4 @@ pub mod Rules
 pub mod Log
 pub mod Writes
 pub mod OwnWrites
+pub mod Walks

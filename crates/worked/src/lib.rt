@@ -1,1 +1,1 @@
-// The claims of `history` and `journal` and the definitions behind them at work on small cases: proofs, and no code.
+// The claims of `history`, `journal` and `walks` and the definitions behind them at work on small cases: proofs, and no code.

@@ -4,6 +4,7 @@
 use std::fmt;
 
 use reference::book::Span;
+use reference::walk::Transfer;
 use sampling::generator::Generator;
 
 use crate::buffers::Name;
@@ -38,6 +39,10 @@ pub enum Call {
     Show {
         command: u64,
         index: u64,
+    },
+    Walk {
+        command: u64,
+        transfer: Transfer,
     },
     Read(Bytes),
     /// A frame written with so many bytes of data.
@@ -75,6 +80,8 @@ pub enum Setting {
     Lend { buffer: Name, length: usize },
     /// A buffer gets the bytes of a seed.
     Fill { buffer: Name, seed: u64 },
+    /// The window gets page entries, from an address on.
+    Prps { address: usize, values: Vec<u64> },
     /// Words of a command, from a place on.
     Words {
         command: usize,
@@ -104,6 +111,7 @@ impl Call {
             Call::Host { .. } => "host",
             Call::Own { .. } => "own",
             Call::Show { .. } => "show",
+            Call::Walk { .. } => "walk",
             Call::Read(_) => "read",
             Call::Write { .. } => "write",
             Call::Replay(_) => "replay",
@@ -154,6 +162,10 @@ impl fmt::Display for Call {
                 write!(out, " {}+{}", span.start, span.length)
             }
             Call::Show { command, index } => write!(out, " {command} {index}"),
+            Call::Walk { command, transfer } => {
+                let Transfer { prp1, prp2, length } = transfer;
+                write!(out, " {command} {prp1} {prp2} {length}")
+            }
             Call::Read(bytes) | Call::Replay(bytes) => write!(out, "{bytes}"),
             Call::Write {
                 kind,
@@ -185,6 +197,10 @@ impl fmt::Display for Setting {
         match self {
             Setting::Lend { buffer, length } => write!(out, "lend {} {length}", buffer.word()),
             Setting::Fill { buffer, seed } => write!(out, "fill {} {seed}", buffer.word()),
+            Setting::Prps { address, values } => {
+                write!(out, "prp {address}")?;
+                values.iter().try_for_each(|value| write!(out, " {value}"))
+            }
             Setting::Words {
                 command,
                 place,

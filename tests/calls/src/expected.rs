@@ -6,6 +6,7 @@ use reference::cache;
 use reference::frames::{read_frame, write_frame, Step};
 use reference::journal::{replay, Lent};
 use reference::refusal::Refusal;
+use reference::walk::{self, walk, Transfer};
 
 use crate::answer::Answer;
 use crate::buffers::Buffers;
@@ -48,7 +49,7 @@ impl Expected {
         }
     }
 
-    /// The six calls of the cache.
+    /// The calls of the cache.
     fn make_on_book(&mut self, call: &Call, data: &[u8]) -> Answer {
         let book = &mut self.book;
         let store = self.buffers.store.lent();
@@ -72,6 +73,7 @@ impl Expected {
                 let shown = cache::show(book, command, index);
                 Answer::of(shown.map(|record| [record.start, record.length]))
             }
+            Call::Walk { command, transfer } => self.walk(command, transfer),
             _ => unreachable!("{call} is no call of the cache"),
         }
     }
@@ -111,6 +113,23 @@ impl Expected {
             self.buffers.destination.lent(),
         );
         Answer::of(fetched.map(|counts| [counts.fresh, counts.replayed]))
+    }
+
+    fn walk(&mut self, command: u64, transfer: Transfer) -> Answer {
+        let lent = walk::Lent {
+            scratch: self.buffers.scratch.lent(),
+            addresses: self.buffers.addresses.lent(),
+            lengths: self.buffers.lengths.lent(),
+        };
+        let walked = walk(
+            &mut self.book,
+            self.buffers.store.lent(),
+            self.buffers.window.lent(),
+            command,
+            transfer,
+            lent,
+        );
+        Answer::of(walked.map(|spans| [spans]))
     }
 
     /// A journal has its own book. Its log is cut where the output ends.

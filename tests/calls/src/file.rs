@@ -157,6 +157,8 @@ mod tests {
     fn each_call_and_setting_is_read() {
         let text = "release\nfresh\nbegin 8\nend 18446744073709551615\nfetch 3 16+4\n\
                     host 0+70000\nown 7 65535+1\nshow 2 64\nread\nread 28 00 +3\n\
+                    walk 3 4 18446744073709551608 65536\nlend scratch 300\nlend addresses 0\n\
+                    lend lengths 40\nprp 131065 18446744073709551615\nprp 0 4096 1 0\n\
                     write 9 8 65536+4097 1\nreplay 08 00\nlend window 0\nlend store 65536\n\
                     fill output 7\nwords 7 128 65535\npart two words\nmap-fresh\nmap-begin\n\
                     map-fetch 4095+1\nmap-end\nmap-open 18446744073709551615\n\
@@ -177,6 +179,17 @@ mod tests {
         assert_eq!(lines("entry 0 63 9+1"), ["line 1: words 0 127 9 1"]);
         let pairs = "line 1: words 5 1 10 4 18 4 26 4";
         assert_eq!(lines("entries 5 3 10+4 8"), [pairs]);
+    }
+
+    #[test]
+    fn page_entries_are_counted_up() {
+        let entries =
+            "line 1: prp 24 18446744073709551605 18446744073709551610 18446744073709551615";
+        assert_eq!(lines("prps 24 3 18446744073709551605 5"), [entries]);
+        assert_eq!(
+            lines("prps 24 1 7 18446744073709551615"),
+            ["line 1: prp 24 7"]
+        );
     }
 
     #[test]
@@ -207,7 +220,7 @@ mod tests {
     }
 
     /// A line that cannot be read, and why.
-    const BAD: [(&str, &str); 41] = [
+    const BAD: [(&str, &str); 50] = [
         ("bgin 1", "'bgin' is not known"),
         ("begin", "a word is missing at the end"),
         ("begin 1 2", "'2' is too much"),
@@ -231,7 +244,19 @@ mod tests {
         ("read +1 28", "'28' is too much"),
         ("lend stores 1", "'stores' is no buffer"),
         ("lend store 65537", "65537 is above 65536"),
+        ("lend scratch 301", "301 is above 300"),
+        ("lend addresses 41", "41 is above 40"),
         ("fill window", "a word is missing at the end"),
+        ("walk 1 2 3", "a word is missing at the end"),
+        ("walk 1 2 3 4 5", "'5' is too much"),
+        ("prp 131074 1", "131074 is above 131073"),
+        ("prp 131066 1", "there are 0 values from that place on"),
+        ("prp 131064 1 2", "there are 1 values from that place on"),
+        ("prps 131064 2 0 1", "2 is above 1"),
+        (
+            "prps 0 2 18446744073709551615 1",
+            "the last of them is no number of 64 bits",
+        ),
         ("command 8 1", "8 is above 7"),
         ("command 1 65536", "65536 is above 65535"),
         ("command 1 2 65536+1", "65536 is above 65535"),

@@ -6,7 +6,7 @@
 //! - [`line`]: one line of the file of calls.
 //! - [`file`]: the whole file, `calls.txt`.
 //! - [`random`]: lists of calls that depend on a seed alone; [`states`] has the
-//!   words that some start from.
+//!   words that some start from, and [`walks`] the walks and page entries in them.
 //! - [`map_lists`]: such lists of calls of the byte map.
 //!
 //! Calling and comparing:
@@ -35,4 +35,5 @@ pub mod random;
 pub mod states;
 pub mod sums;
 pub mod tally;
+pub mod walks;
 pub mod words;

@@ -2,6 +2,7 @@
 
 use boundary::{ByteMap, Words, Written};
 use reference::book::Span;
+use reference::walk::Transfer;
 
 use crate::answer::Answer;
 use crate::buffers::Buffers;
@@ -53,7 +54,7 @@ impl Library {
         }
     }
 
-    /// The six calls of the cache.
+    /// The calls of the cache.
     fn make_on_state(&mut self, call: &Call, data: &[u8]) -> Answer {
         match *call {
             Call::Begin { command } => self.begin(command as usize),
@@ -68,6 +69,7 @@ impl Library {
                 let record = [shown.start, shown.length].map(u64::from);
                 Answer::status(shown.status, record)
             }
+            Call::Walk { command, transfer } => self.walk(command as usize, transfer),
             _ => unreachable!("{call} is no call of the cache"),
         }
     }
@@ -139,6 +141,22 @@ impl Library {
             address,
             data,
         ))
+    }
+
+    fn walk(&mut self, command: usize, transfer: Transfer) -> Answer {
+        let walked = boundary::walk(
+            &mut self.words,
+            self.buffers.store.lent(),
+            self.buffers.window.lent(),
+            self.buffers.scratch.lent(),
+            self.buffers.addresses.lent(),
+            self.buffers.lengths.lent(),
+            command,
+            transfer.prp1,
+            transfer.prp2,
+            transfer.length as usize,
+        );
+        Answer::status(walked.status, [walked.spans as u64])
     }
 
     fn map_fetch(&mut self, span: Span) -> Answer {

@@ -5,13 +5,17 @@
 //! begin C                   end C
 //! fetch C A+N               show C I
 //! host A+N                  own C A+N             N made bytes
+//! walk C PRP1 PRP2 N                              a transfer of N bytes
 //! read HEX.. [+N]           replay HEX.. [+N]     these bytes, then N made ones
 //! write KIND C A+N DATA                           DATA made bytes
 //! map-fresh  map-begin  map-fetch A+N  map-end    calls of the byte map
 //! map-own A+N                                     one with N made bytes
 //!
-//! lend BUFFER N             lends the first N bytes of a buffer
+//! lend BUFFER N             lends the first N bytes of a buffer, or N places of a
+//!                           walk's list
 //! fill BUFFER SEED          gives a buffer the bytes of a seed
+//! prp A VALUE..             page entries in the window, from an address on
+//! prps A COUNT VALUE STEP   COUNT page entries, each STEP above the one before
 //! command C FIRST A+N..     all words of a command: the first one, its entries
 //!                           from the front, and zero
 //! entry C K A+N             entry K of a command
@@ -30,7 +34,8 @@ use std::fmt;
 use std::slice::Iter;
 
 use reference::book::Span;
-use reference::limits::{COMMANDS, MAP_ADDRESSES, MAP_WORDS, RECORDS_PER_COMMAND};
+use reference::limits::{COMMANDS, ENTRY_BYTES, MAP_ADDRESSES, MAP_WORDS, RECORDS_PER_COMMAND};
+use reference::walk::Transfer;
 
 use crate::buffers::{Name, NAMES};
 use crate::call::{Bytes, Call, Setting, MOST_DATA};
@@ -108,6 +113,14 @@ fn call(name: &str, rest: &mut Rest) -> Result<Option<Call>, String> {
             command: rest.number()?,
             index: rest.number()?,
         },
+        "walk" => Call::Walk {
+            command: rest.number()?,
+            transfer: Transfer {
+                prp1: rest.number()?,
+                prp2: rest.number()?,
+                length: rest.number()?,
+            },
+        },
         "read" => Call::Read(rest.bytes()?),
         "write" => Call::Write {
             kind: rest.number()?,
@@ -146,6 +159,8 @@ fn setting(name: &str, rest: &mut Rest) -> Result<Option<Setting>, String> {
             let (buffer, seed) = (rest.buffer()?, rest.number()?);
             return Ok(Some(Setting::Fill { buffer, seed }));
         }
+        "prp" => return rest.prps(Rest::listed).map(Some),
+        "prps" => return rest.prps(Rest::stepped).map(Some),
         "command" => (rest.command()?, 0, rest.whole_command()?),
         "entry" => {
             let command = rest.command()?;
@@ -253,6 +268,31 @@ impl<'a> Rest<'a> {
         let word = self.word()?;
         let name = NAMES.into_iter().find(|name| name.word() == word);
         name.ok_or_else(|| format!("'{word}' is no buffer"))
+    }
+
+    /// Page entries for the window, which has room for the values that are read.
+    fn prps(
+        &mut self,
+        values: fn(&mut Self, usize) -> Result<Vec<u64>, String>,
+    ) -> Result<Setting, String> {
+        let size = Name::Window.size();
+        let address = self.up_to(size)?;
+        let values = values(self, (size - address) / ENTRY_BYTES)?;
+        Ok(Setting::Prps { address, values })
+    }
+
+    /// Values one by one.
+    fn listed(&mut self, room: usize) -> Result<Vec<u64>, String> {
+        self.values(room, Rest::number)
+    }
+
+    /// So many values, each the same step above the one before.
+    fn stepped(&mut self, room: usize) -> Result<Vec<u64>, String> {
+        let count = self.up_to(room)? as u64;
+        let (first, step) = (self.number()?, self.number()?);
+        let value = |place: u64| first.checked_add(place.checked_mul(step)?);
+        let values: Option<Vec<u64>> = (0..count).map(value).collect();
+        values.ok_or_else(|| "the last of them is no number of 64 bits".to_string())
     }
 
     /// Two digits for each byte, and perhaps a number of bytes to make.

@@ -16,7 +16,7 @@ and in the reference: the answer, the state's words, the byte map and every
 buffer must be equal after each. Each status that a call can have must be among
 the answers to the file.
 
-  --calls N  at least N random calls (60000), in lists of 200 and lists of 100
+  --calls N  at least N random calls (68000), in lists of 240 and lists of 100
              of the byte map, one of each for a seed
   --seed S   seed of the first list; the next one has S + 1 (0)
 
@@ -51,7 +51,7 @@ fn main() -> ExitCode {
 /// The number of random calls and the first seed; nothing if the words are not
 /// as [`USAGE`] says.
 fn parse(mut words: impl Iterator<Item = String>) -> Option<(u64, u64)> {
-    let (mut calls, mut seed) = (60_000, 0);
+    let (mut calls, mut seed) = (68_000, 0);
     while let Some(word) = words.next() {
         let number = match word.as_str() {
             "--calls" => &mut calls,

@@ -8,8 +8,8 @@ use reference::book::Book;
 use reference::byte_map;
 
 use crate::answer::Answer;
-use crate::buffers::{Buffer, Buffers, Name, NAMES};
-use crate::call::{made_bytes, Call, Setting};
+use crate::buffers::{Buffer, Buffers, Lend, Name, Place, NAMES};
+use crate::call::{Call, Setting};
 use crate::expected::Expected;
 use crate::file::Item;
 use crate::library::Library;
@@ -70,13 +70,17 @@ impl Pair {
         match setting {
             Setting::Lend { buffer, length } => {
                 for side in self.both(*buffer) {
-                    side.length = *length;
+                    side.lend(*length);
                 }
             }
             Setting::Fill { buffer, seed } => {
                 for side in self.both(*buffer) {
-                    side.bytes = made_bytes(*seed, buffer.size());
+                    side.fill(*seed);
                 }
+            }
+            Setting::Prps { address, values } => {
+                self.library.buffers.put_entries(*address, values);
+                self.expected.buffers.put_entries(*address, values);
             }
             Setting::Words {
                 command,
@@ -94,7 +98,7 @@ impl Pair {
         }
     }
 
-    fn both(&mut self, name: Name) -> [&mut Buffer; 2] {
+    fn both(&mut self, name: Name) -> [&mut dyn Lend; 2] {
         let (library, expected) = (&mut self.library, &mut self.expected);
         [
             library.buffers.get_mut(name),
@@ -133,14 +137,25 @@ impl Pair {
     fn first_difference(&self, right: &[u8], found: &[u8]) -> Option<String> {
         let words = words_of(&self.expected.book);
         let state = difference("the state", &words, &self.library.words);
-        let buffers = NAMES.into_iter().filter_map(|name| {
-            let right = &self.expected.buffers.get(name).bytes;
-            let found = &self.library.buffers.get(name).bytes;
-            difference(&format!("the {}", name.word()), right, found)
-        });
+        let buffers = NAMES.into_iter();
+        let buffers = buffers.filter_map(|name| self.buffer_difference(name));
         let given = difference("the bytes given", right, found);
         let state = state.into_iter().chain(self.map_difference());
         state.chain(buffers).chain(given).next()
+    }
+
+    /// The first place of a buffer in which the sides differ.
+    fn buffer_difference(&self, name: Name) -> Option<String> {
+        let (right, found) = (&self.expected.buffers, &self.library.buffers);
+        match name {
+            Name::Store => between(name, &right.store, &found.store),
+            Name::Window => between(name, &right.window, &found.window),
+            Name::Destination => between(name, &right.destination, &found.destination),
+            Name::Output => between(name, &right.output, &found.output),
+            Name::Scratch => between(name, &right.scratch, &found.scratch),
+            Name::Addresses => between(name, &right.addresses, &found.addresses),
+            Name::Lengths => between(name, &right.lengths, &found.lengths),
+        }
     }
 
     /// The first place of the byte map in which the sides differ.
@@ -165,7 +180,16 @@ impl Pair {
     }
 }
 
-/// The first place at which two buffers of one length differ, in words.
+/// The first place at which a buffer of the one side differs from the other's.
+fn between<T: Place>(name: Name, right: &Buffer<T>, found: &Buffer<T>) -> Option<String> {
+    difference(
+        &format!("the {}", name.word()),
+        &right.places,
+        &found.places,
+    )
+}
+
+/// The first place at which two slices of one length differ, in words.
 fn difference<T: PartialEq + Display>(name: &str, right: &[T], found: &[T]) -> Option<String> {
     if right == found {
         return None;
@@ -182,6 +206,7 @@ mod tests {
     use super::*;
     use crate::file::read;
     use crate::random::list;
+    use reference::walk::Transfer;
 
     /// A pair after these lines, on which nothing may differ.
     fn after(text: &str) -> Pair {
@@ -211,12 +236,25 @@ mod tests {
         assert_eq!(complaint(&mut pair, "show 3 0"), "");
     }
 
+    /// Changes one place of a buffer.
+    fn spoil(buffers: &mut Buffers, name: Name, place: usize) {
+        match name {
+            Name::Store => buffers.store.places[place] ^= 1,
+            Name::Window => buffers.window.places[place] ^= 1,
+            Name::Destination => buffers.destination.places[place] ^= 1,
+            Name::Output => buffers.output.places[place] ^= 1,
+            Name::Scratch => buffers.scratch.places[place] ^= 1,
+            Name::Addresses => buffers.addresses.places[place] ^= 1 << 63,
+            Name::Lengths => buffers.lengths.places[place] ^= 1 << 31,
+        }
+    }
+
     #[test]
-    fn one_changed_byte_is_told_even_where_it_is_not_lent() {
+    fn one_changed_place_is_told_even_where_it_is_not_lent() {
         for name in NAMES {
             for place in [0, name.usual() - 1, name.usual(), name.size() - 1] {
                 let mut pair = after("part a part");
-                pair.library.buffers.get_mut(name).bytes[place] ^= 1;
+                spoil(&mut pair.library.buffers, name, place);
                 let told = complaint(&mut pair, "show 0 0");
                 let first = format!("the {} differs first at place {place}: ", name.word());
                 assert!(told.contains(&first), "{told}");
@@ -266,7 +304,7 @@ mod tests {
     #[test]
     fn random_lists_touch_records_where_there_are_as_many_as_there_may_be() {
         let (mut touched, mut refused) = (0, 0);
-        for seed in 0..144 {
+        for seed in 0..200 {
             let mut pair = Pair::new("a list");
             for item in list(seed) {
                 let before = pair.expected.book.clone();
@@ -289,6 +327,46 @@ mod tests {
         assert!(touched > 50 && refused > 100, "{touched}, {refused}");
     }
 
+    /// How many lists a walk goes through if it is accepted.
+    fn lists_of(transfer: Transfer) -> usize {
+        let Transfer { prp1, prp2, length } = transfer;
+        let behind = (prp1 % 4_096 + length).div_ceil(4_096) - 1;
+        let fitting = (4_096 - prp2 % 4_096) / 8;
+        match behind {
+            0..=1 => 0,
+            _ if behind <= fitting => 1,
+            _ => 2,
+        }
+    }
+
+    #[test]
+    fn random_lists_walk_over_no_list_one_and_two_and_are_stopped_behind_one() {
+        let mut accepted = [0; 3];
+        let (mut replayed, mut kept) = (0, 0);
+        for seed in 0..200 {
+            let mut pair = Pair::new("a list");
+            for item in list(seed) {
+                let before = pair.expected.book.clone();
+                let mut tally = Tally::default();
+                pair.carry_out(&item, &mut tally);
+                let Line::Call(Call::Walk { transfer, .. }, _) = item.line else {
+                    continue;
+                };
+                let same = pair.expected.book == before;
+                if tally.count_of("walk", 0) == 1 {
+                    let lists = lists_of(transfer);
+                    accepted[lists] += 1;
+                    replayed += u64::from(lists > 0 && same);
+                } else {
+                    kept += u64::from(!same);
+                }
+            }
+        }
+        let counts = format!("{accepted:?}, {replayed}, {kept}");
+        assert!(accepted.iter().all(|count| *count > 100), "{counts}");
+        assert!(replayed > 50 && kept > 100, "{counts}");
+    }
+
     #[test]
     fn a_tried_list_leaves_all_as_it_was() {
         let list = "list some\nbegin 1 = 0\nlend store 0\nhost 5+5\nend 0 = 8\nmap-begin = 0\ndone";
@@ -296,6 +374,6 @@ mod tests {
         assert_eq!(pair.library.map, ByteMap::FRESH);
         assert_eq!(pair.library.words[PER_COMMAND], 1);
         let usual = Buffers::usual();
-        assert_eq!(pair.library.buffers.window.bytes, usual.window.bytes);
+        assert_eq!(pair.library.buffers.window.places, usual.window.places);
     }
 }

@@ -1,6 +1,7 @@
 //! Random lists of calls, each of which depends on its seed alone. Most start
 //! from the fresh state, some from other states that hold together, and some
-//! from words that were damaged or are of any value.
+//! from words that were damaged or are of any value. The window has page entries
+//! for walks, which the host changes now and then.
 
 use reference::book::Span;
 use reference::limits::COMMANDS;
@@ -13,12 +14,17 @@ use crate::call::{Bytes, Call, Setting};
 use crate::file::Item;
 use crate::line::Line;
 use crate::states;
+use crate::walks;
 
 /// How many calls a list has.
-pub const CALLS: u64 = 200;
+pub const CALLS: u64 = 240;
 
 /// So many calls are made before a list's state is set anew.
 const CALLS_ON_A_STATE: u64 = 10;
+
+/// Most walks are lent a window of at least so many bytes, so that there are some
+/// pages to walk over.
+const WALKED: u64 = 20_000;
 
 /// Numbers that no call is used to: behind what 3, 8, 16, 32 and 64 bits hold.
 pub const ODD: [u64; 8] = [
@@ -78,6 +84,9 @@ pub fn list(seed: u64) -> Vec<Item> {
         draft.set(Setting::Fill { buffer, seed });
     }
     draft.lend(Name::Window, draft.addresses as usize);
+    for border in walks::borders(draft.walked) {
+        draft.entries(border);
+    }
     for call in 0..CALLS {
         match start {
             Start::Fresh if call < draft.commands => draft.begin(call),
@@ -108,6 +117,8 @@ struct Draft {
     span: fn(&mut Generator, u64) -> (u64, u64),
     /// How many addresses spans are chosen from.
     addresses: u64,
+    /// How many addresses walks find their lists among.
+    walked: u64,
     /// How many commands take part, from 0 on.
     commands: u64,
     /// The words of each command where the state was set; none if it was not.
@@ -125,6 +136,7 @@ impl Draft {
             numbers,
             span,
             addresses,
+            walked: addresses.max(WALKED),
             commands,
             words: vec![],
             items: vec![],
@@ -142,6 +154,12 @@ impl Draft {
 
     fn lend(&mut self, buffer: Name, length: usize) {
         self.set(Setting::Lend { buffer, length });
+    }
+
+    /// Puts page entries around a border.
+    fn entries(&mut self, border: u64) {
+        let entries = walks::entries(&mut self.numbers, self.walked, border);
+        self.set(entries);
     }
 
     fn begin(&mut self, command: u64) {
@@ -190,6 +208,8 @@ impl Draft {
         let odd = match (&call, self.numbers.below(25)) {
             (_, 0) => Some(self.odd_lending()),
             (Call::Fetch { span, .. }, 1..=3) => Some(self.close_room(span.length)),
+            (Call::Walk { .. }, 1..=3) => Some(self.close_desk()),
+            (Call::Walk { .. }, 4..=20) => Some(self.walked_window()),
             _ => None,
         };
         self.add(Line::Call(call, vec![]));
@@ -207,14 +227,33 @@ impl Draft {
         Name::Destination
     }
 
+    /// Lends all addresses that walks find their lists among.
+    fn walked_window(&mut self) -> Name {
+        self.lend(Name::Window, self.walked as usize);
+        Name::Window
+    }
+
+    /// Lends a scratch or a list that a walk has just room in, or just not.
+    fn close_desk(&mut self) -> Name {
+        match self.numbers.below(3) {
+            0 => self.one_of(Name::Scratch, [127, 129, 200]),
+            1 => self.one_of(Name::Addresses, [0, 16, 18]),
+            _ => self.one_of(Name::Lengths, [0, 16, 18]),
+        }
+    }
+
     /// Lends another length of a buffer, and answers of which.
     fn odd_lending(&mut self) -> Name {
-        let (name, lengths) = match self.numbers.below(4) {
-            0 => (Name::Store, [0, 32_767, 32_769]),
-            1 => (Name::Window, [0, 65_537, self.addresses as usize - 1]),
-            2 => (Name::Destination, [0, 3, 4_095]),
-            _ => (Name::Output, [0, 4, 8]),
-        };
+        match self.numbers.below(4) {
+            0 => self.one_of(Name::Store, [0, 32_767, 32_769]),
+            1 => self.one_of(Name::Window, [0, 65_537, self.addresses as usize - 1]),
+            2 => self.one_of(Name::Destination, [0, 3, 4_095]),
+            _ => self.one_of(Name::Output, [0, 4, 8]),
+        }
+    }
+
+    /// Lends one of these lengths of a buffer, and answers the buffer.
+    fn one_of(&mut self, name: Name, lengths: [usize; 3]) -> Name {
         let length = lengths[self.numbers.below(3) as usize];
         self.lend(name, length);
         name
@@ -242,11 +281,32 @@ impl Draft {
             },
             30..=32 => self.read(),
             33..=36 => self.write(),
+            37..=50 => self.walk(),
             _ => {
                 let command = self.command();
                 let span = self.span_of(command);
                 Call::Fetch { command, span }
             }
+        }
+    }
+
+    /// A walk, one in three times after the host has put other page entries
+    /// somewhere, and one in four times the last walk again.
+    fn walk(&mut self) -> Call {
+        if self.numbers.one_in(3) {
+            let border = walks::border(&mut self.numbers, self.walked);
+            self.entries(border);
+        }
+        let last = self.items.iter().rev().find_map(|item| match &item.line {
+            Line::Call(call @ Call::Walk { .. }, _) => Some(call.clone()),
+            _ => None,
+        });
+        match last.filter(|_| self.numbers.one_in(4)) {
+            Some(again) => again,
+            None => Call::Walk {
+                command: self.command(),
+                transfer: walks::transfer(&mut self.numbers, self.walked),
+            },
         }
     }
 

@@ -7,13 +7,14 @@ use crate::answer::Answer;
 use crate::call::Call;
 
 /// The calls that have a status, with the numbers that can apply to each.
-pub const CAN_APPLY: [(&str, &[u64]); 12] = [
+pub const CAN_APPLY: [(&str, &[u64]); 13] = [
     ("begin", &[6, 8, 20, 22]),
     ("fetch", &[4, 6, 7, 8, 9, 10, 20, 21, 23, 24]),
     ("end", &[6, 8, 20, 21]),
     ("host", &[4, 7, 9]),
     ("own", &[4, 6, 7, 8, 9, 20, 21, 23, 24]),
     ("show", &[6, 20, 21, 25]),
+    ("walk", &[31, 10, 6, 7, 8, 20, 21, 32, 9, 23, 24]),
     ("read", &[1, 2, 3, 4, 5]),
     ("write", &[2, 3, 4, 5, 6, 10, 11]),
     ("map-begin", &[20, 22]),

@@ -6,8 +6,10 @@ use calls::line::Line;
 use calls::words::PER_COMMAND;
 use reference::book::Span;
 use reference::limits::{
-    BYTES_PER_CALL, COMMANDS, MAP_ADDRESSES, MAP_WORDS, RECORDS_PER_COMMAND, WINDOW_BYTES,
+    BYTES_PER_CALL, COMMANDS, ENTRY_BYTES, MAP_ADDRESSES, MAP_WORDS, PAGE_BYTES,
+    RECORDS_PER_COMMAND, WALK_SPANS, WALK_TRANSFER_BYTES, WINDOW_BYTES,
 };
+use reference::walk::Transfer;
 
 use crate::input::Input;
 
@@ -16,6 +18,9 @@ const LINES: usize = 100;
 
 /// The kinds of a frame and the three that there are not.
 const KINDS: u64 = 8;
+
+/// How many pages most walks and page entries are about.
+const PAGES: u64 = 4;
 
 /// The lines that the bytes stand for.
 pub fn lines(bytes: &[u8]) -> Vec<Line> {
@@ -28,7 +33,7 @@ pub fn lines(bytes: &[u8]) -> Vec<Line> {
 }
 
 fn line(input: &mut Input) -> Line {
-    let call = match input.byte() % 40 {
+    let call = match input.byte() % 48 {
         0..=3 => Call::Begin {
             command: command(input),
         },
@@ -57,6 +62,11 @@ fn line(input: &mut Input) -> Line {
         29..=30 => return Line::Set(words(input)),
         31 if input.byte() % 2 == 0 => Call::Fresh,
         31 => Call::Release,
+        40..=44 => Call::Walk {
+            command: command(input),
+            transfer: transfer(input),
+        },
+        45..=47 => return Line::Set(entries(input)),
         _ => return map_line(input),
     };
     Line::Call(call, vec![])
@@ -103,6 +113,56 @@ fn map_span(input: &mut Input) -> Span {
 fn short(span: Span) -> Span {
     let length = span.length.min(MOST_DATA as u64);
     Span { length, ..span }
+}
+
+/// A transfer of so many pages, less some bytes. Where it starts and its PRP2 are
+/// near the border of a page.
+fn transfer(input: &mut Input) -> Transfer {
+    let prp1 = near_a_border(input, 4);
+    let prp2 = near_a_border(input, ENTRY_BYTES as u64);
+    let pages = u64::from(input.byte()) % (WALK_SPANS as u64 + 1);
+    let less = input.number(WALK_TRANSFER_BYTES as u64);
+    Transfer {
+        prp1,
+        prp2,
+        length: (PAGE_BYTES as u64 * pages).wrapping_sub(less),
+    }
+}
+
+/// An address at the border of a page, or up to 32 steps before it.
+fn near_a_border(input: &mut Input, step: u64) -> u64 {
+    let back = step * u64::from(input.byte() % 64).saturating_sub(31);
+    page(input).wrapping_sub(back)
+}
+
+/// The address of a page, mostly one of a few, so that lists meet, and rarely off
+/// by some bytes.
+fn page(input: &mut Input) -> u64 {
+    let page = input.number(PAGES);
+    let off = match input.byte() {
+        byte @ 250.. => 1 << (byte - 244),
+        _ => 0,
+    };
+    page.wrapping_mul(PAGE_BYTES as u64) | off
+}
+
+/// Page entries at the border of two pages, or from some before it on: a page
+/// again and again, or pages with the same step between them.
+fn entries(input: &mut Input) -> Setting {
+    let size = Name::Window.size();
+    let address = near_a_border(input, ENTRY_BYTES as u64).min(size as u64) as usize;
+    let room = (size - address) / ENTRY_BYTES;
+    let count = (1 + usize::from(input.byte()) % (2 * WALK_SPANS)).min(room) as u64;
+    let first = page(input);
+    let step = match input.byte() % 2 {
+        0 => 0,
+        _ => page(input),
+    };
+    let value = |place: u64| first.wrapping_add(step.wrapping_mul(place));
+    Setting::Prps {
+        address,
+        values: (0..count).map(value).collect(),
+    }
 }
 
 /// Bytes of the input, and some made ones.
@@ -226,6 +286,40 @@ mod tests {
         let wanted = calls.map(|call| Line::Call(call, vec![]));
         let (first, last) = ([32, 3, 33, 9, 0, 64, 0, 9], [34, 6, 0, 64, 0, 9, 39, 5, 1]);
         assert_eq!(lines(&[&first[..], &last].concat()), wanted);
+    }
+
+    #[test]
+    fn a_walk_and_its_entries_are_what_the_bytes_say() {
+        let walk = Call::Walk {
+            command: 3,
+            transfer: Transfer {
+                prp1: 3 * 4_096 - 4,
+                prp2: 2 * 4_096 - 8,
+                length: 5 * 4_096 - 7,
+            },
+        };
+        let entries = Setting::Prps {
+            address: 2 * 4_096 - 8,
+            values: vec![3 * 4_096, 4 * 4_096 + 64],
+        };
+        let set = [45, 32, 0, 2, 0, 1, 0, 3, 0, 1, 0, 1, 250];
+        let walked = [40, 0, 3, 32, 0, 3, 0, 32, 0, 2, 0, 5, 0, 7];
+        let wanted = [Line::Set(entries), Line::Call(walk, vec![])];
+        assert_eq!(lines(&[&set[..], &walked].concat()), wanted);
+    }
+
+    #[test]
+    fn entries_have_room_in_the_window() {
+        for byte in 0..=255 {
+            for other in [0, 13, 15, 255] {
+                let bytes = [byte, other, 255, 255 - byte, byte, other, byte, 255];
+                let setting = entries(&mut Input(&bytes));
+                let Setting::Prps { address, values } = setting else {
+                    panic!("{setting}");
+                };
+                assert!(address + ENTRY_BYTES * values.len() <= Name::Window.size());
+            }
+        }
     }
 
     #[test]

@@ -1,0 +1,54 @@
+// One list page: the entries that are needed of it are one fetch, and are judged where they were delivered.
+ghost use mathlib.Core.Path.{_≡_};
+ghost use mathlib.Core.List.{map};
+ghost use Prim.Native.Nat.{_*_, _≤_};
+ghost use lib.ListN.{length};
+ghost use Rattle.admission.specs.Plan.{admissionReply};
+ghost use Rattle.prp.specs.Pages.{pageSize};
+ghost use Rattle.prp.specs.Entries.{entriesIn, wrongMultiple, judged};
+ghost use Rattle.listing.specs.Page.{ListsPage};
+use admission::admit::Admission;
+use fetch::fetch;
+use pages::entries::all_pages;
+use state::CacheState;
+use state::FetchAnswer;
+use state::Refusal;
+
+// Whether all of some entries are the addresses of pages.
+fn judge_pages(entries: &[u8], count: usize) -> Admission
+    requires { ⌜ 8 * count ≤ length (now entries) ⌝ }
+    ensures { λ r. ⌜ admissionReply r ≡ judged (map (wrongMultiple pageSize) (entriesIn count (now (entries .entry)))) ⌝ }
+{
+    if all_pages(entries, count) {
+        return Admission::Admitted;
+    }
+    Admission::Barred(Refusal::EntryMisaligned)
+}
+
+// One list page, of which `entries` has just the room for what is needed.
+pub fn list_page(
+    state: &mut [u16; CacheState::WORDS],
+    store: &mut [u8],
+    window: &[u8],
+    entries: &mut [u8],
+    command: usize,
+    address: u64,
+    count: usize,
+) -> Admission
+    requires { ⌜ (length (now entries) ≡ 8 * count) × (count ≤ 16) ⌝ }
+    ensures { λ r. ⌜ ListsPage (now (state .entry)) (now (store .entry)) (now (window .entry)) command address count r (now (state .exit)) (now (store .exit)) (now (entries .exit)) ⌝ }
+{
+    let answer = fetch(
+        state,
+        store,
+        window,
+        entries,
+        command,
+        address as usize,
+        8 * count,
+    );
+    if let FetchAnswer::Refused(why) = answer {
+        return Admission::Barred(why);
+    }
+    judge_pages(entries, count)
+}

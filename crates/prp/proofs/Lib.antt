@@ -1,0 +1,12 @@
+pub mod Reading
+pub mod Answers
+pub mod Pages
+pub mod Entries
+pub mod Said
+pub mod Listed
+pub mod Listing
+pub mod Accepted
+pub mod Spans
+pub mod Refused
+pub mod Unread
+pub mod Numbers

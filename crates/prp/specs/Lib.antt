@@ -1,0 +1,4 @@
+pub mod Pages
+pub mod Entries
+pub mod Walk
+pub mod Claims

@@ -1,0 +1,4 @@
+pub mod Early
+pub mod Gathering
+pub mod Concluding
+pub mod Walking

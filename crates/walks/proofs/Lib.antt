@@ -1,0 +1,10 @@
+pub mod Expanded
+pub mod Counted
+pub mod Alone
+pub mod Numbers
+pub mod Told
+pub mod SameSpans
+pub mod Agreeing
+pub mod SameCalls
+pub mod SameWalks
+pub mod EqualWalks
