@@ -336,14 +336,15 @@ DOORCLOVER_USE_REPLY doorclover_written doorclover_own_write(
  *     for no further page   PRP2 is not looked at.
  *     for one               PRP2 is the entry.
  *     for two or more       PRP2 is where a list of entries starts in the window, a multiple of 8. An
- *                           entry has 8 bytes, least byte first. If more are needed than fit up to the
- *                           end of the list's page, the last one there leads onward: it is no page of
- *                           the transfer but the address of the next list, a multiple of 4,096 too.
+ *                           entry has 8 bytes, least byte first. A list that is longer than what is
+ *                           left of its page goes on elsewhere: the last entry in the page leads
+ *                           onward then. It is no page of the transfer but the address of the next
+ *                           list, a multiple of 4,096 too.
  *
  * The entries needed of a list are one fetch of the command, as by doorclover_fetch: bytes that it holds
- * are replayed, and the others are read from the window and held from now on. So the same walk by the same
- * command gives the same spans again, whatever the host has written over the entries. No other byte of the
- * window is read. The pages themselves may lie anywhere, in the window or not, and 0 is an address too.
+ * are replayed, and the others are read from the window and held from now on. So until its end, unless it
+ * writes there itself, the same walk by the same command gives the same spans again if it is accepted,
+ * whatever the host has written over the entries. No other byte of the window is read. The pages themselves may lie anywhere, in the window or not, and 0 is an address too.
  *
  * The reply is the number of spans. Span i has its address in addresses[i] and its length in lengths[i].
  * The lengths add up to the transfer, and neighbours stay two spans. Places behind the spans do not change.

@@ -17,7 +17,7 @@ use Rattle.prp.specs.Pages.{Walk, scratchLeast}
 use Rattle.prp.specs.Walk.{walkAfter}
 use Rattle.markedwalks.specs.Marks.{Marked, passes}
 
--- the bytes of a list: "of 8-byte entries, least byte first"
+-- the bytes of a list of entries, eight each, from the least byte on
 unfoldable pub entryOf : ℕ → List ℕ
 unfolding span
 entryOf x = map (λ k. (x / 256 ^ k) % 256) (span 0 8)
@@ -87,8 +87,8 @@ module _ (m : Machine) (w : Walk) where
   abbrev pub getsEarly : ℕ → Marked
   getsEarly n = record { before = m; walk = w; answer = refused n; addresses = []; lengths = []; records = []; zeroed = false }
 
--- "If the transfer fits that page, PRP2 is not looked at": here it is odd. A whole page; one byte; from inside the page to its end; the last four
--- bytes below 2^64.
+-- No page behind the first, so that PRP2 may be anything: here it is odd. A whole page; one byte; from inside the page to its end; the last four bytes
+-- below 2^64.
 unfoldable pub onePage : List Marked
 unfolding opened
 onePage =
@@ -98,8 +98,8 @@ onePage =
     ∷ gives opened (walkOf (top - 4) 3 4 []) ((top - 4) ∷ []) (4 ∷ []) []
     ∷ []
 
--- "If exactly one page more is touched, PRP2 is that page's address". One byte more than a page, on the next page, which is not merged; two whole
--- pages, the second of which is 0; one byte more than the page of a PRP1 inside it.
+-- One page behind the first, PRP2. One byte more than a page, on the next page, which is not merged; two whole pages, the second of which is 0; one
+-- byte more than the page of a PRP1 inside it.
 unfoldable pub twoPages : List Marked
 unfolding opened
 twoPages =
@@ -118,8 +118,8 @@ unfoldable pub pagesOf : ℕ → List ℕ
 unfolding span
 pagesOf n = map (λ k. 4096 * k) (span 2 n)
 
--- "Otherwise PRP2 points to a list in the window". A list that ends with the window; the longest transfer with the fewest spans and with the most;
--- "9 if the list leaves the window", by one entry, and where the sum of address and length has more than 64 bits.
+-- More pages, by a list. One that ends with the window; the longest transfer with the fewest spans and with the most; 9 for a list that ends an entry
+-- behind the window, and where the sum of address and length has more than 64 bits.
 unfoldable pub oneList : List Marked
 unfolding opened listWindow entriesOf pagesOf
 oneList =
@@ -130,8 +130,8 @@ oneList =
     ∷ gets opened (walkOf 4096 (top - 8) 12288 listWindow) 9 []
     ∷ []
 
--- "If more entries are needed than fit up to the end of the list's page, the last one there points to the next list". It is the only one there, and
--- the next list has two entries, or the most; it stands behind a page's entry; as many are needed as fit, and the last one is a page's.
+-- An onward entry, where a list goes on. It is the only one that fits, and the next list has two entries, or the most; it stands behind a page's
+-- entry; it stands at the end of another page than the first, and points to that page's front; just as many are needed as fit, and there is none.
 unfoldable pub twoLists : List Marked
 unfolding opened framed pagesOf
 twoLists =
@@ -141,10 +141,12 @@ twoLists =
     (0 ∔ 128 ∷ 4088 ∔ 8 ∷ [])
     ∷ gives opened (walkOf 4096 4080 16384 (framed (20480 ∷ 24576 ∷ []) (28672 ∷ 0 ∷ []))) (4096 ∷ 28672 ∷ 20480 ∷ 24576 ∷ [])
     (4096 ∷ 4096 ∷ 4096 ∷ 4096 ∷ []) (0 ∔ 16 ∷ 4080 ∔ 16 ∷ [])
+    ∷ gives opened (walkOf 4096 8184 12288 (replicate 4096 0 ++ framed (20480 ∷ 24576 ∷ []) (4096 ∷ []))) (4096 ∷ 20480 ∷ 24576 ∷ [])
+    (4096 ∷ 4096 ∷ 4096 ∷ []) (4096 ∔ 16 ∷ 8184 ∔ 8 ∷ [])
     ∷ gives opened (walkOf 4096 4080 12288 (framed [] (20480 ∷ 24576 ∷ []))) (4096 ∷ 20480 ∷ 24576 ∷ []) (4096 ∷ 4096 ∷ 4096 ∷ []) (4080 ∔ 16 ∷ [])
     ∷ []
 
--- "32 for a wrong multiple". PRP1, by 1, by 2, and with the largest address; PRP2 as a page, by 8, and as a list, by 4; the first entry of a list and
+-- 32, for each kind of entry: PRP1, by 1, by 2, and with the largest address; PRP2 as a page, by 8, and as a list, by 4; the first entry of a list and
 -- the last.
 unfoldable pub wrongMultiples : List Marked
 unfolding opened listWindow entriesOf
@@ -158,8 +160,8 @@ wrongMultiples =
     ∷ gets opened (walkOf 4096 0 12288 (entriesOf (20480 ∷ 24577 ∷ []))) 32 (0 ∔ 16 ∷ [])
     ∷ []
 
--- "Refused at an entry or a list fetch, it keeps the records and held bytes of list fetches already accepted". A wrong onward entry, and a wrong entry
--- before it: the second list is not fetched; the second list leaves the window; a wrong entry in it.
+-- What a refused walk keeps: the records of the list fetches that were accepted by then. A wrong onward entry, and a wrong entry before it: the second
+-- list is not fetched; the second list leaves the window; a wrong entry in it.
 unfoldable pub recordsKept : List Marked
 unfolding opened framed
 recordsKept =
@@ -199,10 +201,10 @@ lent prp1 command transfer scratch addresses lengths window = record {
 unfoldable pub broken : State
 broken = withCommand freshState 1 (open-with (5 ∔ 0 ∷ []))
 
--- "Checks: 31, transfer length 0 or above 65,536, comes first; then 10; then 6, 7, 8, 20 and 21 in number order, list or no list; then .. from
--- PRP1". All that can be wrong is, and one thing after the other is put right.
+-- The order of the numbers, up to PRP1's 32. All that can be wrong is, and one thing after the other is put right; and 21 before PRP1 and PRP2 where
+-- there is a list.
 unfoldable pub inOrder : List Marked
-unfolding broken store opened
+unfolding broken store opened listWindow
 inOrder =
     let m : Machine = record { state = broken; store = [] } in
     getsEarly m (lent 4097 8 0 127 16 16 65537) 31
@@ -215,11 +217,12 @@ inOrder =
     ∷ getsEarly m (lent 4097 0 1 128 17 17 65536) 8
     ∷ getsEarly (record { state = broken; store = store }) (lent 4097 0 1 128 17 17 0) 20
     ∷ getsEarly (start store) (lent 4097 0 1 128 17 17 0) 21
+    ∷ getsEarly (start store) (walkOf 4097 12 12288 listWindow) 21
     ∷ gets opened (lent 4097 0 1 128 17 17 0) 32 []
     ∷ gives opened (lent 4096 0 1 128 17 17 0) (4096 ∷ []) (1 ∷ []) []
     ∷ []
 
--- "The scratch is unchanged if the walk is refused before PRP1 is judged, and otherwise all zero at return", all 200 bytes of it.
+-- A scratch of 200 bytes: as it was where the walk is refused before PRP1, and else zero in all its bytes.
 unfoldable pub longScratch : List Marked
 unfolding store opened
 longScratch =
@@ -228,8 +231,7 @@ longScratch =
     ∷ gives opened (lent 4096 0 1 200 17 17 0) (4096 ∷ []) (1 ∷ []) []
     ∷ []
 
--- "The entries needed in one list page are one fetch through the cache": what the command holds of them is replayed, from a walk after which the
--- window changed, and from its own write.
+-- Entries that the command holds are replayed: from a walk after which the window changed, and from its own write.
 unfoldable pub replayed : List Marked
 unfolding opened listWindow entriesOf ran ownSays ownState ownStore
 replayed =

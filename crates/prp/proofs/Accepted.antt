@@ -1,6 +1,6 @@
 -- What an accepted walk tells: the transfer and the room are as 02 asks, and the entries behind PRP1 are as many as are needed and all multiples
 -- of a page.
-use Prim.Native.Nat.{ℕ, zero, suc, _-_, _<_, _≤_}
+use Prim.Native.Nat.{ℕ, zero, suc, _-_, _%_, _<_, _≤_}
 use native.Mathlib.Omega.{arith}
 use mathlib.Core.Path.{_≡_, refl, sym, _∙_}
 use mathlib.Core.List.{List, [], _∷_}
@@ -84,6 +84,7 @@ pub record Admitted (w : Walk) : Type 0 where
 
 pub record Walked (m : Machine) (w : Walk) : Type 0 where
   pub admits : Admitted w
+  pub first : w .prp1 % 4 ≡ 0
   pub entries : Pages (needed w) (pageEntries (asksOf m) w)
   pub reply : walkSays m w ≡ replied (touched w ∷ [])
 
@@ -108,6 +109,7 @@ module _ (m : Machine) (w : Walk) where
       let checks = walkChecks m w in
       record {
         admits = admitted (checks-taken asks w checks e);
+        first = entry-judged 4 (w .prp1) (first-taken asks w checks e);
         entries = entries-behind asks w checks e;
         reply =
             then-goes-on _ (judged checks) (checks-taken asks w checks e)

@@ -24,6 +24,11 @@ module _ (s : Reply) where
   then-second (replied ns) e = e
 
   -- and where a part is refused, so is the answer
+  pub then-refused : (r : Reply) → accepted r ≡ false → (r then s) ≡ r
+  unfolding accepted
+  then-refused (refused k) e = refl
+  then-refused (replied ns) e = absurd (false≢true (sym e))
+
   pub then-stops : (r : Reply) → accepted r ≡ false → accepted (r then s) ≡ false
   unfolding accepted
   then-stops (refused k) e = refl

@@ -10,13 +10,17 @@ use Rattle.prp.specs.Pages.{Walk}
 use Rattle.prp.specs.Entries.{judged}
 use Rattle.prp.specs.Walk.{answerBy, fetchesBy, makesOne, asksOf, walkChecks, walkSays, walkFetches, walkAfter, walkScratch, walkAddresses, walkLengths}
 use Rattle.prp.specs.Claims.{RefusedWalk, RefusedEarly, ScratchZero, acceptedOf, KeepsAccepted}
-use Rattle.prp.proofs.Answers.{then-stops}
+use Rattle.prp.proofs.Answers.{then-refused, then-stops}
 
 pub refused-walk : RefusedWalk
 unfolding walkAddresses walkLengths
 refused-walk m w e = record { addresses = rw e; lengths = rw e }
 
 module _ (m : Machine) (w : Walk) (e : accepted (judged (walkChecks m w)) ≡ false) where
+  answer-first : walkSays m w ≡ judged (walkChecks m w)
+  unfolding walkSays answerBy
+  answer-first = then-refused _ (judged (walkChecks m w)) e
+
   answer-refused : accepted (walkSays m w) ≡ false
   unfolding walkSays answerBy
   answer-refused = then-stops _ (judged (walkChecks m w)) e
@@ -31,7 +35,12 @@ module _ (m : Machine) (w : Walk) (e : accepted (judged (walkChecks m w)) ≡ fa
 
 pub refused-early : RefusedEarly
 unfolding walkScratch
-refused-early m w e = record { lists = refused-walk m w (answer-refused m w e); machine = machine-same m w e; scratch = rw e }
+refused-early m w e = record {
+  answer = answer-first m w e;
+  lists = refused-walk m w (answer-refused m w e);
+  machine = machine-same m w e;
+  scratch = rw e;
+}
 
 pub scratch-zero : ScratchZero
 unfolding walkScratch

@@ -113,6 +113,7 @@ module _ (m : Machine) (w : Walk) (e : accepted (walkSays m w) ≡ true) where
       λ h. page-touched (offset w) (reach w) inside-page some i .1 (page-behind (offset w) (reach w) inside-page some i h),
     );
     first = first-there;
+    firstMultiple = is .first;
     starts = later-there;
     full = λ i h. rw (length-at i h) (page-full (offset w) (reach w) inside-page some i (reaches i h));
     inside = in-page;

@@ -29,8 +29,9 @@ module _ (m : Machine) (w : Walk) where
     pub some : 0 < touched w
     pub room : touched w ≤ spansMost
     pub pages : (i : ℕ) → (i < touched w) ↔ (0 < lengthIn w i)
-    -- the first starts at PRP1, and the others with their pages
+    -- the first starts at PRP1, a multiple of 4, and the others with their pages
     pub first : addressAt 0 ≡ w .prp1
+    pub firstMultiple : w .prp1 % 4 ≡ 0
     pub starts : (i : ℕ) → 0 < i → i < touched w → addressAt i % pageSize ≡ 0
     -- none is empty, none leaves its page, and all but the last end with their pages
     pub full : (i : ℕ) → i < touched w → 0 < lengthAt i
@@ -53,8 +54,10 @@ pub record ListsUnchanged (m : Machine) (w : Walk) : Type 0 where
 abbrev pub RefusedWalk : Type 0
 RefusedWalk = (m : Machine) (w : Walk) → accepted (walkSays m w) ≡ false → ListsUnchanged m w
 
--- Refused before PRP1 is judged, a walk changes nothing at all; otherwise, accepted or refused, its whole scratch is zero at return.
+-- Refused before PRP1 is judged, a walk changes nothing at all, and its number is that of the first check that applies, whether there is a list or
+-- not; otherwise, accepted or refused, its whole scratch is zero at return.
 pub record NothingChanged (m : Machine) (w : Walk) : Type 0 where
+  pub answer : walkSays m w ≡ judged (walkChecks m w)
   pub lists : ListsUnchanged m w
   pub machine : walkAfter m w ≡ m
   pub scratch : walkScratch m w ≡ w .scratch

@@ -31,7 +31,7 @@ reason TooManyRecords = "the command would have more than 64 records"
 reason NoSuchRecord = "the command has no record of this number"
 reason WindowBeyondMap = "the window is longer than 4096 bytes"
 reason TransferOutOfRange = "the transfer is not 1 to 65536 bytes"
-reason EntryMisaligned = "a page entry is not a multiple of its size"
+reason EntryMisaligned = "a page entry is not the multiple it must be"
 
 -- with blanks behind it, up to 43 characters
 abbrev pub padded : String → List ℕ

@@ -27,6 +27,6 @@ pub(crate) fn reason(refusal: Refusal) -> [u8; 43]
         Refusal::NoSuchRecord => *b"the command has no record of this number   ",
         Refusal::WindowBeyondMap => *b"the window is longer than 4096 bytes       ",
         Refusal::TransferOutOfRange => *b"the transfer is not 1 to 65536 bytes       ",
-        Refusal::EntryMisaligned => *b"a page entry is not a multiple of its size ",
+        Refusal::EntryMisaligned => *b"a page entry is not the multiple it must be",
     }
 }

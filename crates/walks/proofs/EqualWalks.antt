@@ -1,5 +1,5 @@
 -- The equal-runs rule for lists with walks: where at each place the first fetches agree, two lists that have all in common but the bytes of
--- windows and of host writes do the same at every place.
+-- windows, host writes, destinations and scratches do the same at every place.
 use Prim.Native.Nat.{ℕ}
 use native.Mathlib.Omega.{arith}
 use mathlib.Core.Path.{_≡_, refl, ap, ap₂, subst, sym, _∙_}
@@ -12,7 +12,7 @@ use Rattle.state.specs.Verdict.{Reply, accepted}
 use Rattle.cache.specs.Runs.{Call, Machine, start, along}
 use Rattle.history.specs.Journal.{Event, event, told, backwards}
 use Rattle.history.specs.Firsts.{memory, firsts}
-use Rattle.history.specs.Claims.{common, blank, blankDest}
+use Rattle.history.specs.Claims.{blank, commonLengths}
 use Rattle.history.proofs.Sound.{Sound, sound-start, sound-ran}
 use Rattle.history.proofs.Alike.{alike}
 use Rattle.prp.specs.Pages.{Walk, spanLengths}
@@ -22,7 +22,7 @@ use Rattle.walks.specs.Claims.{commonAt, firstsAt, agree, agreeing, Equa
 use Rattle.walks.proofs.Expanded.{after-calls}
 use Rattle.walks.proofs.Agreeing.{agree-front}
 use Rattle.walks.proofs.SameCalls.{same-call, SameRun, same-none, same-next}
-use Rattle.walks.proofs.SameWalks.{withWindow, answer-same, entries-same, checks-same, Pair, pair}
+use Rattle.walks.proofs.SameWalks.{withBytes, answer-same, entries-same, checks-same, Pair, pair}
 
 -- what two places have in common
 record SamePlace (m : Machine) (past past′ : List Event) (p q : Place) : Type 0 where
@@ -30,52 +30,55 @@ record SamePlace (m : Machine) (past past′ : List Event) (p q : Place) : Type 
   lists : placeLists m p ≡ placeLists m q
   run : SameRun m past past′ (callsAt m p) (callsAt m q)
 
--- two walks that have all in common but the bytes of their windows
+-- two walks that have all in common but the bytes of their scratches and windows
 module _ (w u : Walk) (e : commonAt (walk w) ≡ commonAt (walk u)) where
-  blanked : withWindow w (blank (w .window)) ≡ withWindow u (blank (u .window))
+  blanked : withBytes w (blank (w .scratch)) (blank (w .window)) ≡ withBytes u (blank (u .scratch)) (blank (u .window))
   unfolding commonAt
   blanked = cc
+
+  scratch-size : length (w .scratch) ≡ length (u .scratch)
+  scratch-size = sym (length-replicate _ 0) ∙ ap (λ (v : Walk). length (v .scratch)) blanked ∙ length-replicate _ 0
 
   window-size : length (w .window) ≡ length (u .window)
   window-size = sym (length-replicate _ 0) ∙ ap (λ (v : Walk). length (v .window)) blanked ∙ length-replicate _ 0
 
-  window-apart : withWindow w (u .window) ≡ u
-  window-apart i = record {
+  bytes-apart : withBytes w (u .scratch) (u .window) ≡ u
+  bytes-apart i = record {
     command = blanked i .command;
     prp1 = blanked i .prp1;
     prp2 = blanked i .prp2;
     transfer = blanked i .transfer;
     least = blanked i .least;
-    scratch = blanked i .scratch;
+    scratch = u .scratch;
     addressList = blanked i .addressList;
     lengthList = blanked i .lengthList;
     window = u .window;
   }
 
 module _ (m : Machine) (past past′ : List Event) (known : memory past ≡ memory past′) (S : Sound m (memory past)) where
-  same-plain : (p q : Call) → common p ≡ common q
+  same-plain : (p q : Call) → commonLengths p ≡ commonLengths q
       → agree (gathered (told firsts past (placeEvents m (plain p)))) (gathered (told firsts past′ (placeEvents m (plain q)))) ≡ true
       → SamePlace m past past′ (plain p) (plain q)
   unfolding told along flatMap
   same-plain p q e agreed =
-      let C = same-call m past past′ p q known S (alike p q (ap blankDest e))
+      let C = same-call m past past′ p q known S (alike p q e)
       (agree-front (firsts past (event m p)) [] (firsts past′ (event m q)) [] agreed) in
       record { answer = C .answer; lists = refl; run = same-next m past past′ p q [] [] C (same-none _ _ _ (C .remembered)) }
 
-  module _ (w : Walk) (window : List ℕ) (size : length (w .window) ≡ length window) where
+  module _ (w : Walk) (scratch window : List ℕ) (room : length (w .scratch) ≡ length scratch) (size : length (w .window) ≡ length window) where
     abbrev v : Walk
-    v = withWindow w window
+    v = withBytes w scratch window
 
-    module _ (P : Pair m w window size past past′) where
+    module _ (P : Pair m w scratch window room size past past′) where
       answer-alike : walkSays m w ≡ walkSays m v
       unfolding walkSays
       answer-alike =
-          answer-same (asksOf m) w window (walkChecks m w) (P .one) (P .two)
-          ∙ ap (answerBy (asksOf m) v) (sym (checks-same m w window size))
+          answer-same (asksOf m) w scratch window (walkChecks m w) (P .one) (P .two)
+          ∙ ap (answerBy (asksOf m) v) (sym (checks-same m w scratch window room size))
 
       entries-alike : accepted (walkSays m w) ≡ true → pageEntries (asksOf m) w ≡ pageEntries (asksOf m) v
       unfolding walkSays
-      entries-alike e = entries-same (asksOf m) w window (walkChecks m w) (P .one) (P .two) e
+      entries-alike e = entries-same (asksOf m) w scratch window (walkChecks m w) (P .one) (P .two) e
 
       lists-alike : placeLists m (walk w) ≡ placeLists m (walk v)
       unfolding walkAddresses walkLengths spanLengths
@@ -89,12 +92,12 @@ module _ (m : Machine) (past past′ : List Event) (known : memory past ≡ memo
 
       same-walk : SamePlace m past past′ (walk w) (walk v)
       unfolding walkFetches
-      same-walk = record { answer = answer-alike; lists = lists-alike; run = rw (checks-same m w window size) (P .run) }
+      same-walk = record { answer = answer-alike; lists = lists-alike; run = rw (checks-same m w scratch window room size) (P .run) }
 
     same-walk-of : agree (gathered (told firsts past (placeEvents m (walk w)))) (gathered (told firsts past′ (placeEvents m (walk v)))) ≡ true
         → SamePlace m past past′ (walk w) (walk v)
     unfolding walkFetches
-    same-walk-of agreed = same-walk (pair m w window size past past′ known S (rw (checks-same m w window size) at agreed))
+    same-walk-of agreed = same-walk (pair m w scratch window room size past past′ known S (rw (checks-same m w scratch window room size) at agreed))
 
   same-place : (p q : Place) → commonAt p ≡ commonAt q
       → agree (gathered (told firsts past (placeEvents m p))) (gathered (told firsts past′ (placeEvents m q))) ≡ true → SamePlace m past past′ p q
@@ -104,7 +107,8 @@ module _ (m : Machine) (past past′ : List Event) (known : memory past ≡ memo
   same-place (walk w) (plain q) e agreed = let z : _≡_ {A = ℕ} 0 1 = cc in absurd (omega arith)
   same-place (walk w) (walk u) e agreed =
       subst (λ (v : Walk). agree (gathered (told firsts past (placeEvents m (walk w)))) (gathered (told firsts past′ (placeEvents m (walk v)))) ≡ true
-      → SamePlace m past past′ (walk w) (walk v)) (window-apart w u e) (same-walk-of w (u .window) (window-size w u e)) agreed
+      → SamePlace m past past′ (walk w) (walk v)) (bytes-apart w u e)
+      (same-walk-of w (u .scratch) (u .window) (scratch-size w u e) (window-size w u e)) agreed
 
 -- what two lists have in common, place by place
 data Steps : Machine → List Place → List Place → Type 0 where

@@ -24,26 +24,26 @@ use Rattle.walks.specs.Claims.{agree}
 use Rattle.walks.proofs.Agreeing.{agree-front, agree-rest}
 use Rattle.walks.proofs.SameCalls.{SameCall, same-call, SameRun, same-none, same-next}
 
--- a walk with another window
-abbrev pub withWindow : Walk → List ℕ → Walk
-withWindow w window = record {
+-- a walk with other bytes in its scratch and its window
+abbrev pub withBytes : Walk → (scratch window : List ℕ) → Walk
+withBytes w scratch window = record {
   command = w .command;
   prp1 = w .prp1;
   prp2 = w .prp2;
   transfer = w .transfer;
   least = w .least;
-  scratch = w .scratch;
+  scratch = scratch;
   addressList = w .addressList;
   lengthList = w .lengthList;
   window = window;
 }
 
 -- Where the list fetches that are made get the same, the answer is the same, and so are the entries of an accepted walk.
-module _ (asks : Asks) (w : Walk) (window : List ℕ) (checks : List Check)
-    (one : makesOne asks w checks ≡ true → gotOne asks w ≡ gotOne asks (withWindow w window))
-    (two : makesTwo asks w checks ≡ true → gotTwo asks w ≡ gotTwo asks (withWindow w window)) where
+module _ (asks : Asks) (w : Walk) (scratch window : List ℕ) (checks : List Check)
+    (one : makesOne asks w checks ≡ true → gotOne asks w ≡ gotOne asks (withBytes w scratch window))
+    (two : makesTwo asks w checks ≡ true → gotTwo asks w ≡ gotTwo asks (withBytes w scratch window)) where
   abbrev v : Walk
-  v = withWindow w window
+  v = withBytes w scratch window
 
   pages-same : makesOne asks w checks ≡ true
       → (pageSays (firstCount w) (gotOne asks w) then elim (chained w) [ true ↦ pageSays (secondCount w) (gotTwo asks w) | false ↦ replied [] ])
@@ -86,9 +86,9 @@ module _ (asks : Asks) (w : Walk) (window : List ℕ) (checks : List Check)
           ∙ sym (entries-two asks v e u)
 
 -- at one machine
-module _ (m : Machine) (w : Walk) (window : List ℕ) (size : length (w .window) ≡ length window) where
+module _ (m : Machine) (w : Walk) (scratch window : List ℕ) (room : length (w .scratch) ≡ length scratch) (size : length (w .window) ≡ length window) where
   abbrev w′ : Walk
-  w′ = withWindow w window
+  w′ = withBytes w scratch window
 
   abbrev asks : Asks
   asks = asksOf m
@@ -97,7 +97,7 @@ module _ (m : Machine) (w : Walk) (window : List ℕ) (size : length (w .window)
   checks = walkChecks m w
 
   pub checks-same : walkChecks m w′ ≡ checks
-  checks-same = rw size
+  checks-same = rw (room, size)
 
   -- what the list fetches that the two make have in common
   pub record Pair (past past′ : List Event) : Type 0 where

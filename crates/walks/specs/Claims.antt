@@ -18,7 +18,7 @@ use Rattle.history.specs.Firsts.{First, firsts, heldSince, owed}
 use Rattle.history.specs.Counts.{countsReplied, countsOwed, bytesReplied, sumOwed}
 use Rattle.history.specs.Stores.{storeOwed}
 use Rattle.history.specs.Answers.{openSince, answersOwed, Meets}
-use Rattle.history.specs.Claims.{renews, blank, common, partIn, Holding}
+use Rattle.history.specs.Claims.{renews, blank, commonLengths, partIn, Holding}
 use Rattle.prp.specs.Pages.{Walk, touched}
 use Rattle.prp.specs.Entries.{judged}
 use Rattle.prp.specs.Walk.{walkChecks, walkSays, walkFetches, walkAfter, walkAddresses, walkLengths}
@@ -34,8 +34,8 @@ pub record IsExpanded (store : List ℕ) (ps : List Place) : Type 0 where
 abbrev pub WalksAreFetches : Type 0
 WalksAreFetches = (store : List ℕ) (ps : List Place) → IsExpanded store ps
 
--- 02's "accepted list fetches count as fetches", rule by rule: every claim about lists of calls holds of lists with walks, with the list fetches
--- among the fetches.
+-- List fetches that were accepted are fetches, rule by rule: what is claimed of what a list of calls delivers, answers and leaves holds of a list
+-- with walks, with the list fetches among the fetches. (That values stay the same between two calls is said of walks by `SameSpans`.)
 module _ (store : List ℕ) (ps : List Place) where
   abbrev pub eventsOf : List Event
   eventsOf = placesJournal store ps
@@ -118,16 +118,16 @@ abbrev pub SameSpans : Type 0
 SameSpans = (store : List ℕ) (before : List Place) (w : Walk) (between : List Place) (w′ : Walk) → SpansKept store before w between w′
 
 -- The equal-runs rule for lists with walks, in the one direction that 02 asks for. What two runs have in common is all that is given but the bytes of
--- windows and of host writes.
+-- windows, of host writes, of destinations and of scratches; of these it is the length.
 unfoldable pub commonAt : Place → Place
-commonAt (plain p) = plain (common p)
+commonAt (plain p) = plain (commonLengths p)
 commonAt (walk w) = walk (record {
   command = w .command;
   prp1 = w .prp1;
   prp2 = w .prp2;
   transfer = w .transfer;
   least = w .least;
-  scratch = w .scratch;
+  scratch = blank (w .scratch);
   addressList = w .addressList;
   lengthList = w .lengthList;
   window = blank (w .window);
