@@ -96,7 +96,7 @@ extern "C" {
 #endif
 
 /* The number of this interface; doorclover_release() gives that of the archive. */
-#define DOORCLOVER_RELEASE 2u
+#define DOORCLOVER_RELEASE 3u
 
 /* Limits. */
 #define DOORCLOVER_COMMANDS 8u      /* commands are 0 to 7 */
@@ -214,8 +214,9 @@ typedef struct doorclover_begun {
 
 typedef struct doorclover_fetched {
     doorclover_status status;
-    size_t fresh;     /* bytes of the span that were read from the window, and are held now */
-    size_t replayed;  /* bytes of the span that were held before */
+    size_t fresh;      /* bytes of the span that were read from the window, and are held now */
+    size_t replayed;   /* bytes of the span that were held before */
+    size_t looked_at;  /* records that the search looked at, for tuning; 0 for length 0, and of a map */
 } doorclover_fetched;
 
 typedef struct doorclover_ended {
@@ -232,7 +233,8 @@ typedef struct doorclover_written {
 
 typedef struct doorclover_walked {
     doorclover_status status;
-    size_t spans;  /* how many there are, in the front of addresses and lengths */
+    size_t spans;      /* how many there are, in the front of addresses and lengths */
+    size_t looked_at;  /* records that its list fetches looked at, added up; 0 if it makes none */
 } doorclover_walked;
 
 typedef struct doorclover_shown {
@@ -284,6 +286,8 @@ DOORCLOVER_USE_REPLY doorclover_begun doorclover_begin(
  * with the span or touch it become one with it, so that records are the longest unbroken runs of
  * what the command holds. The destination behind the span does not change. A length of 0 changes
  * nothing. A span that reaches past the window of this call is refused, even where it is held.
+ * The search goes over the records that the command has before the call, from the lowest start upward,
+ * and ends with the first that starts above address + length. looked_at counts them, that one included.
  * Refused with 4, 6 to 10, 20, 21, 23, 24.
  */
 DOORCLOVER_USE_REPLY doorclover_fetched doorclover_fetch(
@@ -344,10 +348,12 @@ DOORCLOVER_USE_REPLY doorclover_written doorclover_own_write(
  * The entries needed of a list are one fetch of the command, as by doorclover_fetch: bytes that it holds
  * are replayed, and the others are read from the window and held from now on. So until its end, unless it
  * writes there itself, the same walk by the same command gives the same spans again if it is accepted,
- * whatever the host has written over the entries. No other byte of the window is read. The pages themselves may lie anywhere, in the window or not, and 0 is an address too.
+ * whatever the host has written over the entries. No other byte of the window is read. The pages
+ * themselves may lie anywhere, in the window or not, and 0 is an address too.
  *
  * The reply is the number of spans. Span i has its address in addresses[i] and its length in lengths[i].
  * The lengths add up to the transfer, and neighbours stay two spans. Places behind the spans do not change.
+ * looked_at is the sum over the list fetches, of which the second looks at the records that the first left.
  *
  * Refused with 31, 10, 6, 7, 8, 20, 21, the first of them in this order that applies, and then nothing has
  * changed. 10 stands for a scratch of fewer than 128 bytes, and for addresses or lengths of fewer than 17
@@ -411,8 +417,8 @@ DOORCLOVER_USE_REPLY doorclover_replayed doorclover_journal_replay(
  * The byte map's calls. A map's parts are lent one by one, as &map.open, map.words, map.values. It is
  * proved that a list of these calls, begun on the fresh map and with no window above 4,096 bytes, is
  * answered as the calls above answer it for any one command of a fresh state whose store has 32,768
- * bytes: same status, same numbers, same bytes delivered and written; and after each call every run is
- * a record of that command, and every record a run.
+ * bytes: same status, same numbers but looked_at, same bytes delivered and written; and after each call
+ * every run is a record of that command, and every record a run.
  */
 
 /* Makes the fresh map: the command is closed, and nothing is held. */
@@ -429,7 +435,7 @@ DOORCLOVER_USE_REPLY doorclover_begun doorclover_map_begin(
  * Delivers a span into the front of the destination, as doorclover_fetch does. A byte that is held
  * comes from the values. Any other is read from the window, and is held from now on: its bit is set,
  * and it is its address's value. Refused with 24 if there would be more than 64 runs. The map has room
- * for every byte of its window, and so there is no 23.
+ * for every byte of its window, and so there is no 23; it has no records, and so looked_at is 0.
  * Refused with 4, 30, 9, 10, 20, 21, 24, the first of them in this order that applies.
  */
 DOORCLOVER_USE_REPLY doorclover_fetched doorclover_map_fetch(
@@ -486,11 +492,13 @@ DOORCLOVER_ASSERT(sizeof(doorclover_map) == 4616 && offsetof(doorclover_map, ope
 DOORCLOVER_ASSERT(offsetof(doorclover_map, words) == 8 && offsetof(doorclover_map, values) == 520);
 DOORCLOVER_ASSERT(DOORCLOVER_ALIGN(doorclover_map) == 8);
 DOORCLOVER_ASSERT(sizeof(doorclover_begun) == 4);
-DOORCLOVER_ASSERT(sizeof(doorclover_fetched) == 24 && offsetof(doorclover_fetched, replayed) == 16);
+DOORCLOVER_ASSERT(sizeof(doorclover_fetched) == 32 && offsetof(doorclover_fetched, replayed) == 16);
+DOORCLOVER_ASSERT(offsetof(doorclover_fetched, looked_at) == 24);
 DOORCLOVER_ASSERT(sizeof(doorclover_ended) == 24 && offsetof(doorclover_ended, bytes) == 16);
 DOORCLOVER_ASSERT(sizeof(doorclover_written) == 24 && offsetof(doorclover_written, bytes) == 8);
 DOORCLOVER_ASSERT(offsetof(doorclover_written, fresh) == 16);
-DOORCLOVER_ASSERT(sizeof(doorclover_walked) == 16 && offsetof(doorclover_walked, spans) == 8);
+DOORCLOVER_ASSERT(sizeof(doorclover_walked) == 24 && offsetof(doorclover_walked, spans) == 8);
+DOORCLOVER_ASSERT(offsetof(doorclover_walked, looked_at) == 16);
 DOORCLOVER_ASSERT(sizeof(doorclover_shown) == 8 && offsetof(doorclover_shown, length) == 6);
 DOORCLOVER_ASSERT(sizeof(doorclover_step) == 48 && offsetof(doorclover_step, taken) == 40);
 DOORCLOVER_ASSERT(sizeof(doorclover_framed) == 16 && offsetof(doorclover_framed, length) == 8);

@@ -108,6 +108,20 @@ pub fn make(cache: &mut impl Cache, memory: &mut Memory, call: Call, sink: &mut 
     }
 }
 
+/// What a program that has just started answers to calls that follow others.
+pub fn answers<C: Cache>(before: &[Call], calls: &[Call]) -> Vec<Answer> {
+    let (mut cache, mut memory) = (C::new(), Memory::new());
+    let mut answer = |call: &Call| {
+        let mut last = Last(Answer::Unknown);
+        make(&mut cache, &mut memory, *call, &mut last);
+        last.0
+    };
+    for call in before {
+        answer(call);
+    }
+    calls.iter().map(answer).collect()
+}
+
 /// Makes a walk, which has more arguments than any other call and gets a stack frame
 /// of its own for them, so that those of the others cost what they cost without it.
 #[inline(never)]

@@ -12,7 +12,9 @@ mod maps;
 mod moved;
 mod walks;
 
-use crate::call::Call;
+use crate::answer::Answer;
+use crate::call::{answers, Call};
+use crate::programs::Proved;
 
 pub use moved::by_case;
 
@@ -40,6 +42,8 @@ pub enum Group {
     Fresh(usize),
     /// A fetch of 4,096 bytes that joins records.
     Overlap,
+    /// A fetch of a byte of one record among several.
+    Search,
     /// A walk.
     Walk,
     /// A call that the byte map makes too.
@@ -87,6 +91,18 @@ impl Case {
         };
         case.moved = by_case(&case);
         case
+    }
+
+    /// How many records one call of interest looks at, as the proved library replies.
+    /// The log of a journal does not tell it.
+    pub fn looked_at(&self) -> usize {
+        match &self.subject {
+            Subject::Calls { before, unit } => {
+                let answers = answers::<Proved>(before, unit).into_iter();
+                answers.map(Answer::looked_at).sum()
+            }
+            Subject::Journals { .. } => 0,
+        }
     }
 
     /// Whether one run has what is measured only once, since a second time would

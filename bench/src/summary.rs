@@ -1,6 +1,6 @@
 //! Where the proved library is ahead and where it is behind, in a few lines.
 
-use crate::cases::Group;
+use crate::cases::{Group, RECORDS};
 use crate::table::{capital, parted, Figures, Measure, MEASURES};
 use crate::work::Column;
 
@@ -9,10 +9,11 @@ const NAMED: usize = 6;
 
 /// A list of lines for the document's beginning.
 pub fn lines(figures: &[Figures]) -> String {
-    let [calls, walks, maps, frames] = parted(figures);
+    let [calls, searches, walks, maps, frames] = parted(figures);
     let mut text = String::new();
     for (rows, what) in [
         (&calls, "calls"),
+        (&searches, "fetches by their search"),
         (&walks, "walks"),
         (&maps, "calls of the byte map"),
         (&frames, "frames of journals"),
@@ -23,6 +24,9 @@ pub fn lines(figures: &[Figures]) -> String {
     }
     for measure in MEASURES {
         text += &replayed(&calls, measure);
+    }
+    for measure in MEASURES {
+        text += &one_more(&calls, &searches, measure);
     }
     text
 }
@@ -52,8 +56,9 @@ fn against_checks(rows: &[&Figures], what: &str, measure: Measure) -> String {
     text + ".\n"
 }
 
-fn rounded(ratio: f64) -> f64 {
-    (100.0 * ratio).round() / 100.0
+/// To hundredths, with no sign at a zero.
+fn rounded(figure: f64) -> f64 {
+    (100.0 * figure).round() / 100.0 + 0.0
 }
 
 /// The least and the greatest ratio of rows that are in order.
@@ -65,18 +70,23 @@ fn range(rows: &[&Figures], ratio: impl Fn(&Figures) -> f64) -> String {
     }
 }
 
+/// What the check takes of a state with so many records.
+fn price(calls: &[&Figures], records: usize, measure: Measure, column: Column) -> Option<f64> {
+    let row = calls
+        .iter()
+        .find(|row| row.group == Group::Check(records))?;
+    row.of(measure, column)
+}
+
 /// Whether replayed fetches keep to twice those without checks and the price
 /// of the check.
 fn replayed(rows: &[&Figures], measure: Measure) -> String {
-    let price = |records: usize| {
-        let row = rows.iter().find(|row| row.group == Group::Check(records));
-        row.and_then(|row| row.of(measure, Column::Proved))
-    };
     let share = |row: &&Figures| -> Option<f64> {
         let Group::Replayed(records) = row.group else {
             return None;
         };
-        let allowed = 2.0 * row.of(measure, Column::Unchecked)? + price(records)?;
+        let price = price(rows, records, measure, Column::Proved)?;
+        let allowed = 2.0 * row.of(measure, Column::Unchecked)? + price;
         Some(row.of(measure, Column::Proved)? / allowed)
     };
     let shares: Vec<f64> = rows.iter().filter_map(share).collect();
@@ -87,5 +97,32 @@ fn replayed(rows: &[&Figures], measure: Measure) -> String {
          and the price of the check; the highest is {most:.2} of that.\n",
         capital(measure.name()),
         shares.len()
+    )
+}
+
+/// What one more record takes, the check left out: one that the search looks at, by
+/// the rows that look at the most, and one behind it, by those that look at the
+/// fewest.
+fn one_more(calls: &[&Figures], searches: &[&Figures], measure: Measure) -> String {
+    let [.., few, many] = RECORDS;
+    let with = |records: usize| searches.iter().filter(move |row| row.size == records);
+    let most = [few, many].map(|records| with(records).max_by_key(|row| row.looked_at));
+    let fewest = [few, many].map(|records| with(records).min_by_key(|row| row.looked_at));
+    let each = |rows: [Option<&&Figures>; 2], column: Column| {
+        let [low, high] = rows.map(|row| {
+            let price = price(calls, row?.size, measure, column)?;
+            Some(row?.of(measure, column)? - price)
+        });
+        let more = high.zip(low).map_or(f64::NAN, |(high, low)| high - low);
+        format!("{:.2}", rounded(more / (many - few) as f64))
+    };
+    format!(
+        "- **{} of one more record**, from {few} to {many}, the check left out: proved {} if the search looks \
+         at it and {} if it stands behind; plain with checks {} and {}.\n",
+        capital(measure.name()),
+        each(most, Column::Proved),
+        each(fewest, Column::Proved),
+        each(most, Column::Checked),
+        each(fewest, Column::Checked)
     )
 }

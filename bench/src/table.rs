@@ -1,5 +1,7 @@
 //! The figures of a run, and the tables of them.
 
+use std::array;
+
 use crate::cases::{Case, Group};
 use crate::stack::Depth;
 use crate::work::{ByColumn, Column, COLUMNS};
@@ -11,6 +13,8 @@ pub struct Figures {
     pub size: usize,
     /// Payload bytes that it moves.
     moved: usize,
+    /// Records that its search looks at.
+    pub looked_at: usize,
     pub instructions: ByColumn<f64>,
     pub nanoseconds: ByColumn<f64>,
 }
@@ -40,6 +44,7 @@ impl Figures {
             name: case.name.clone(),
             size: case.size,
             moved: case.moved / case.units,
+            looked_at: case.looked_at(),
             instructions,
             nanoseconds,
         }
@@ -60,10 +65,19 @@ impl Figures {
         Some(self.of(measure, proved)? / self.of(measure, checked)?)
     }
 
+    /// What is counted of it beside its cost, and the count.
+    fn counted(&self) -> (&'static str, usize) {
+        match self.group {
+            Group::Search => ("records looked at", self.looked_at),
+            _ => ("bytes moved", self.moved),
+        }
+    }
+
     fn row(&self, measure: Measure, columns: &[Column]) -> String {
         let ratio = self.ratio(measure);
         let ratio = ratio.map_or("–".to_string(), |ratio| format!("{ratio:.2}"));
-        let mut row = format!("| {} | {} | {ratio} |", self.name, self.moved);
+        let (_, count) = self.counted();
+        let mut row = format!("| {} | {count} | {ratio} |", self.name);
         for column in columns {
             let figure = self.of(measure, *column);
             let figure = figure.map_or("–".to_string(), |figure| format!("{figure:.0}"));
@@ -116,6 +130,15 @@ pub const OF_CALLS: [Column; 6] = [
     Column::Copy,
 ];
 
+/// The columns that a search has: a copy has nothing to search.
+const OF_SEARCHES: [Column; 5] = [
+    Column::Proved,
+    Column::Checked,
+    Column::Unchecked,
+    Column::Ranges,
+    Column::Bitmap,
+];
+
 /// The columns that a walk has.
 const OF_WALKS: [Column; 7] = [
     Column::Proved,
@@ -147,27 +170,26 @@ const OF_JOURNALS: [Column; 4] = [
     Column::Copy,
 ];
 
-/// The rows of calls, of walks, of calls that the byte map makes too, and of
-/// journals.
-pub fn parted(figures: &[Figures]) -> [Vec<&Figures>; 4] {
-    let of = |wanted: fn(Group) -> bool| {
-        let rows = figures.iter();
-        rows.filter(|row| wanted(row.group)).collect()
+/// The rows of calls, of searches, of walks, of calls that the byte map makes too,
+/// and of journals.
+pub fn parted(figures: &[Figures]) -> [Vec<&Figures>; 5] {
+    let part = |row: &Figures| match row.group {
+        Group::Search => 1,
+        Group::Walk => 2,
+        Group::Map => 3,
+        Group::Frame => 4,
+        _ => 0,
     };
-    [
-        of(|group| !matches!(group, Group::Walk | Group::Map | Group::Frame)),
-        of(|group| group == Group::Walk),
-        of(|group| group == Group::Map),
-        of(|group| group == Group::Frame),
-    ]
+    array::from_fn(|place| figures.iter().filter(|row| part(row) == place).collect())
 }
 
 /// The tables of calls and of journals, by each measure, and of the stack.
 pub fn tables(figures: &[Figures], depths: &[Depth]) -> String {
-    let [calls, walks, maps, frames] = parted(figures);
+    let [calls, searches, walks, maps, frames] = parted(figures);
     let mut text = String::new();
     for (title, rows, columns) in [
         ("one call", &calls, &OF_CALLS[..]),
+        ("one fetch by its search", &searches, &OF_SEARCHES[..]),
         ("one walk", &walks, &OF_WALKS[..]),
         ("one call that the byte map makes too", &maps, &OF_MAPS[..]),
         ("one frame of a journal", &frames, &OF_JOURNALS[..]),
@@ -180,10 +202,13 @@ pub fn tables(figures: &[Figures], depths: &[Depth]) -> String {
 }
 
 fn table(what: &str, measure: Measure, rows: &[&Figures], columns: &[Column]) -> String {
+    let Some(first) = rows.first() else {
+        return String::new();
+    };
+    let (group, (counted, _)) = (first.group, first.counted());
     let mut text = format!("\n### {} of {what}\n\n", capital(measure.name()));
-    let group = rows.first().map_or(Group::Call, |row| row.group);
     let [proved, checked] = compared(group).map(title);
-    text += &format!("| {what} | bytes moved | {proved} : {checked} |");
+    text += &format!("| {what} | {counted} | {proved} : {checked} |");
     text.extend(
         columns
             .iter()

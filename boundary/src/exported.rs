@@ -18,13 +18,15 @@ pub struct Ended {
     pub bytes: usize,
 }
 
-/// How many bytes of the span were fresh, and how many were replayed.
+/// How many bytes of the span were fresh and how many were replayed, and how many
+/// records the search for it looked at, which is 0 of a byte map.
 #[repr(C)]
 #[derive(Clone, Copy, Debug, PartialEq, Eq)]
 pub struct Fetched {
     pub status: u32,
     pub fresh: usize,
     pub replayed: usize,
+    pub looked_at: usize,
 }
 
 /// How many bytes were written, and how many of their addresses the command
@@ -46,12 +48,14 @@ pub struct Shown {
     pub length: u16,
 }
 
-/// How many spans a walk found, each in a page of its own.
+/// How many spans a walk found, each in a page of its own, and how many records all
+/// its list fetches looked at.
 #[repr(C)]
 #[derive(Clone, Copy, Debug, PartialEq, Eq)]
 pub struct Walked {
     pub status: u32,
     pub spans: usize,
+    pub looked_at: usize,
 }
 
 /// The step of a frame, and how many bytes the frame took up.

@@ -6,7 +6,7 @@
 //! its work on them, and puts the map together again.
 
 use crate::book::Span;
-use crate::cache::{Ended, Fetched, Written};
+use crate::cache::{Ended, Written};
 use crate::limits::{BYTES_PER_CALL, MAP_ADDRESSES, MAP_WORDS, RECORDS_PER_COMMAND};
 use crate::refusal::{refuse_first, Refusal};
 
@@ -20,6 +20,15 @@ pub struct ByteMap {
     pub words: [u64; MAP_WORDS],
     /// The held values, each at its address.
     pub values: [u8; MAP_ADDRESSES],
+}
+
+/// The two counts of an accepted fetch. There are no records to look at.
+#[derive(Clone, Copy, Debug, PartialEq, Eq)]
+pub struct Fetched {
+    /// Addresses of the span that were not held before.
+    pub fresh: u64,
+    /// All other addresses of the span.
+    pub replayed: u64,
 }
 
 /// What each address holds.

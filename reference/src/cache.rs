@@ -11,13 +11,15 @@ use crate::limits::{
 };
 use crate::refusal::{refuse_lowest, Refusal};
 
-/// The two counts of an accepted fetch.
+/// The three counts of an accepted fetch.
 #[derive(Clone, Copy, Debug, PartialEq, Eq)]
 pub struct Fetched {
     /// Addresses of the span that were in no record before.
     pub fresh: u64,
     /// All other addresses of the span.
     pub replayed: u64,
+    /// Records that the search for the span looked at.
+    pub looked: u64,
 }
 
 /// The two numbers of an accepted own write.
@@ -84,6 +86,7 @@ pub fn fetch(
     let fresh = held.take_in(span, window);
     refuse_beyond_limits(&held)?;
 
+    let looked = looked_at(entry.records(), span);
     held.pack(entry, part);
     for (place, byte) in destination.iter_mut().zip(held.bytes_of(span)) {
         *place = byte;
@@ -91,7 +94,19 @@ pub fn fetch(
     Ok(Fetched {
         fresh,
         replayed: length - fresh,
+        looked,
     })
+}
+
+/// How many of the ascending records a search for the span looks at, by F-6 of 02
+/// (the agreed changes; docs/RULES.md has them too): the first one that starts
+/// above the span's end is the last, and there is no search for no bytes.
+fn looked_at(records: &[Span], span: Span) -> u64 {
+    if span.length == 0 {
+        return 0;
+    }
+    let mut parts = records.split_inclusive(|record| span.ends_short_of(*record));
+    parts.next().map_or(0, |searched| searched.len() as u64)
 }
 
 /// The rule "End": closes an open command, whose records go, and sets its

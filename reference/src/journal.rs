@@ -107,7 +107,9 @@ fn call(book: &mut Book, lent: &mut Lent, step: Step) -> Result<Vec<String>, Ref
     }
 }
 
-/// A fetch into the lent destination: its counts, and what it delivered.
+/// A fetch into the lent destination: its counts but that of records, which F-6 of
+/// 02 (the agreed changes; docs/RULES.md has them too) leaves out of the log, and
+/// what it delivered.
 fn fetch(
     book: &mut Book,
     lent: &mut Lent,

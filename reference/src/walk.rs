@@ -34,9 +34,17 @@ pub struct Lent<'a> {
     pub lengths: &'a mut [u32],
 }
 
-/// Answers how many spans the transfer has; address and length of each are at
-/// the front of the lists then. A list fetch that was accepted stays, though the
-/// walk is refused later.
+/// The two numbers of an accepted walk.
+#[derive(Clone, Copy, Debug, PartialEq, Eq)]
+pub struct Walked {
+    /// How many spans the transfer has.
+    pub spans: u64,
+    /// Records that were looked at in all fetches of lists (F-6 in 02).
+    pub looked: u64,
+}
+
+/// Puts address and length of each span at the front of the lists. A list fetch
+/// that was accepted stays, though the walk is refused later.
 pub fn walk(
     book: &mut Book,
     store: &mut [u8],
@@ -44,7 +52,7 @@ pub fn walk(
     command: u64,
     transfer: Transfer,
     lent: Lent,
-) -> Result<u64, Refusal> {
+) -> Result<Walked, Refusal> {
     let possible = 1..=WALK_TRANSFER_BYTES as u64;
     let places = lent.addresses.len().min(lent.lengths.len());
     let too_short = lent.scratch.len() < WALK_SCRATCH_BYTES || places < WALK_SPANS;
@@ -63,20 +71,24 @@ pub fn walk(
 
     lent.scratch.fill(0);
     let lengths = cut_at_borders(transfer);
-    let list = ListPages {
+    let mut list = ListPages {
         book,
         store,
         window,
         command,
         next: transfer.prp2,
         missing: lengths.len() - 1,
+        looked: 0,
     };
-    let addresses = addresses(transfer, list)?;
+    let addresses = addresses(transfer, &mut list)?;
     for (place, (address, length)) in addresses.iter().zip(&lengths).enumerate() {
         lent.addresses[place] = *address;
         lent.lengths[place] = *length;
     }
-    Ok(lengths.len() as u64)
+    Ok(Walked {
+        spans: lengths.len() as u64,
+        looked: list.looked,
+    })
 }
 
 /// How many bytes of the transfer lie in each page, from the first on.
@@ -100,7 +112,7 @@ fn to_the_border(address: u64) -> u64 {
 
 /// The address of each span. The list has those behind the first, if they are
 /// more than one.
-fn addresses(transfer: Transfer, list: ListPages) -> Result<Vec<u64>, Refusal> {
+fn addresses(transfer: Transfer, list: &mut ListPages) -> Result<Vec<u64>, Refusal> {
     let mut addresses = vec![multiple_of(FIRST_MULTIPLE, transfer.prp1)?];
     match list.missing {
         0 => {}
@@ -131,6 +143,8 @@ struct ListPages<'a> {
     next: u64,
     /// How many addresses are still to be found.
     missing: usize,
+    /// How many records the fetches have looked at so far.
+    looked: u64,
 }
 
 impl Iterator for ListPages<'_> {
@@ -159,7 +173,7 @@ impl ListPages<'_> {
     /// So many entries, in one fetch, each judged.
     fn fetched(&mut self, count: usize) -> Result<Vec<u64>, Refusal> {
         let mut bytes = vec![0; ENTRY_BYTES * count];
-        fetch(
+        let counts = fetch(
             self.book,
             self.store,
             self.window,
@@ -168,6 +182,7 @@ impl ListPages<'_> {
             bytes.len() as u64,
             &mut bytes,
         )?;
+        self.looked += counts.looked;
         bytes
             .chunks_exact(ENTRY_BYTES)
             .map(|entry| multiple_of(PAGE_BYTES as u64, number_of(entry)))

@@ -211,7 +211,8 @@ fn any_frame(generator: &mut Generator, model: &mut Model) -> (Vec<u8>, char, Re
             let rest = model.fetch(command, address, length).map(|delivery| {
                 let digits: String = delivery.bytes.iter().map(|b| format!("{b:02x}")).collect();
                 let shown = if length == 0 { "-" } else { &digits };
-                format!(" {} {} {shown}", delivery.fresh, delivery.replayed)
+                let counts = delivery.counts;
+                format!(" {} {} {shown}", counts.fresh, counts.replayed)
             });
             (frame(1, command, address, length, &[]), 'F', rest)
         }

@@ -1,9 +1,9 @@
 //! The byte map and the record engine, given the same begins, fetches, own writes
 //! and ends of one command over windows of at most 4,096 bytes (F-2 and F-3 in
 //! 02, the agreed changes; docs/RULES.md has them too). After each call the
-//! answers, the destinations and the windows are equal, the runs are the command's
-//! records, the ones are their total, and the held values are the bytes at the
-//! front of its part of the store.
+//! answers, but for the number of records looked at (F-6), the destinations and
+//! the windows are equal, the runs are the command's records, the ones are their
+//! total, and the held values are the bytes at the front of its part of the store.
 
 use std::collections::BTreeMap;
 

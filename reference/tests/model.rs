@@ -6,6 +6,7 @@
 use std::collections::{BTreeMap, BTreeSet};
 
 use reference::book::Book;
+use reference::cache::Fetched;
 use reference::walk::Transfer;
 
 /// What the model knows of one held address.
@@ -17,8 +18,7 @@ struct Cell {
 
 /// What an accepted fetch must answer and deliver.
 pub struct Delivery {
-    pub fresh: u64,
-    pub replayed: u64,
+    pub counts: Fetched,
     pub bytes: Vec<u8>,
     /// How many records the span met: those that share a byte with it or
     /// touch it.
@@ -101,12 +101,17 @@ impl Model {
         let place = known(command)?;
         self.inside_window(address, length)?;
         let present = self.window[address as usize..][..length as usize].to_vec();
+        let held = self.commands[place].as_ref();
+        let looked = held.map_or(0, |held| looked_labels(held, address, length));
         let (fresh, met) = self.hold(place, address, &present, |held, _| held)?;
         let cells = self.commands[place].iter().flatten();
         let of_span = cells.filter(|(at, _)| (address..address + length).contains(at));
         Ok(Delivery {
-            fresh,
-            replayed: length - fresh,
+            counts: Fetched {
+                fresh,
+                replayed: length - fresh,
+                looked,
+            },
             bytes: of_span.map(|(_, cell)| cell.value).collect(),
             met,
         })
@@ -186,9 +191,9 @@ impl Model {
         records.get(index as usize).copied().ok_or(25)
     }
 
-    /// Answers address and length of each span. What was fetched of lists stays,
-    /// also if the walk is refused.
-    pub fn walk(&mut self, command: u64, transfer: Transfer) -> Result<Vec<(u64, u64)>, u8> {
+    /// Answers address and length of each span, and how many records were looked
+    /// at. What was fetched of lists stays, also if the walk is refused.
+    pub fn walk(&mut self, command: u64, transfer: Transfer) -> Result<(Vec<(u64, u64)>, u64), u8> {
         let Transfer { prp1, prp2, length } = transfer;
         if length == 0 || length > 65_536 {
             return Err(31);
@@ -199,31 +204,35 @@ impl Model {
         let start = multiple(prp1, 4)? % 4_096;
         let end = start + length;
         let count = end.div_ceil(4_096);
-        let mut addresses = match count {
-            1 => vec![],
-            2 => vec![multiple(prp2, 4_096)?],
+        let (mut addresses, looked) = match count {
+            1 => (vec![], 0),
+            2 => (vec![multiple(prp2, 4_096)?], 0),
             _ => self.listed(command, multiple(prp2, 8)?, count - 1)?,
         };
         addresses.insert(0, prp1);
         let cut = |border: u64| border.clamp(start, end);
         let lengths = (0..count).map(|page| cut(4_096 * (page + 1)) - cut(4_096 * page));
-        Ok(addresses.into_iter().zip(lengths).collect())
+        Ok((addresses.into_iter().zip(lengths).collect(), looked))
     }
 
-    /// So many pages from an entry of a list on.
-    fn listed(&mut self, command: u64, list: u64, count: u64) -> Result<Vec<u64>, u8> {
+    /// So many pages from an entry of a list on, and how many records were looked
+    /// at for them.
+    fn listed(&mut self, command: u64, list: u64, count: u64) -> Result<(Vec<u64>, u64), u8> {
         let fitting = 512 - list / 8 % 512;
-        let bytes = self.fetch(command, list, 8 * count.min(fitting))?.bytes;
+        let delivery = self.fetch(command, list, 8 * count.min(fitting))?;
+        let mut looked = delivery.counts.looked;
         let mut entries = vec![];
-        for entry in bytes.chunks(8) {
+        for entry in delivery.bytes.chunks(8) {
             let entry = u64::from_le_bytes(entry.try_into().expect("eight bytes"));
             entries.push(multiple(entry, 4_096)?);
         }
         if count > fitting {
             let onward = entries.remove(fitting as usize - 1);
-            entries.extend(self.listed(command, onward, count - (fitting - 1))?);
+            let (rest, more) = self.listed(command, onward, count - (fitting - 1))?;
+            entries.extend(rest);
+            looked += more;
         }
-        Ok(entries)
+        Ok((entries, looked))
     }
 
     pub fn is_open(&self, command: u64) -> bool {
@@ -269,6 +278,20 @@ fn met_labels(held: &BTreeMap<u64, Cell>, address: u64, length: u64) -> BTreeSet
     }
     let about = address.saturating_sub(1)..=address + length;
     held.range(about).map(|(_, cell)| cell.label).collect()
+}
+
+/// How many labels there are up to the address behind a span, and one more if
+/// there is another further on; none of an empty span.
+fn looked_labels(held: &BTreeMap<u64, Cell>, address: u64, length: u64) -> u64 {
+    if length == 0 {
+        return 0;
+    }
+    let behind = address + length;
+    let label = |(_, cell): (&u64, &Cell)| cell.label;
+    let passed: BTreeSet<u64> = held.range(..=behind).map(label).collect();
+    let mut further = held.range(behind..).map(label);
+    let another = further.any(|label| !passed.contains(&label));
+    passed.len() as u64 + u64::from(another)
 }
 
 /// The number, if it is a multiple of the size.

@@ -4,11 +4,11 @@
 
 use std::collections::BTreeMap;
 
-use reference::book::{Book, CommandBook};
+use reference::book::{Book, CommandBook, Span};
 use sampling::generator::Generator;
 use sampling::spans;
 
-use crate::model::Model;
+use crate::model::{Delivery, Model};
 use crate::scene::{open_with, Scene};
 
 /// How the calls of a list are chosen.
@@ -36,6 +36,10 @@ pub struct Tally {
     pub mixed: u64,
     /// Accepted fetches without a byte.
     pub empty: u64,
+    /// Fetches for which some records were looked at and others not.
+    pub ended_early: u64,
+    /// Fetches of some bytes right behind which a record started.
+    pub before_a_record: u64,
     /// Own writes over some addresses that were held and some that were not.
     pub mixed_writes: u64,
     /// Own writes that were refused with 23 or with 24.
@@ -52,6 +56,17 @@ impl Tally {
         if let Err(number) = answer {
             *self.refusals.entry(*number).or_default() += 1;
         }
+    }
+
+    /// Counts a search up to an address, and sees that it went no further than F-6
+    /// of 02 (the agreed changes; docs/RULES.md has them too) allows: to one record
+    /// more than start there or lower.
+    fn count_search(&mut self, records: &[Span], end: u64, looked: u64) {
+        let most = 1 + records.iter().filter(|record| record.start <= end).count();
+        assert!(looked <= most as u64, "{looked} of at most {most}");
+        self.ended_early += u64::from(0 < looked && looked < records.len() as u64);
+        let before_one = records.iter().any(|record| record.start == end);
+        self.before_a_record += u64::from(looked > 0 && before_one);
     }
 
     fn count_write(&mut self, answer: &Result<(u64, u64), u8>) {
@@ -187,18 +202,21 @@ fn one_fetch(
     let room = length + generator.below(4);
     scene.destination = vec![generator.below(256) as u8; room as usize];
     let behind = scene.destination[length as usize..].to_vec();
+    let before = scene.book.clone();
     let expected = model.fetch(command, address, length);
     tally.count_refusal(&expected);
-    let answer = scene.fetch(command, address, length);
+    let answer = scene.fetched(command, address, length);
     match expected {
         Err(number) => assert_eq!(answer, Err(number)),
-        Ok(delivery) => {
-            assert_eq!(answer, Ok((delivery.fresh, delivery.replayed)));
-            assert_eq!(scene.destination, [delivery.bytes, behind].concat());
+        Ok(Delivery { counts, bytes, met }) => {
+            assert_eq!(answer, Ok(counts));
+            assert_eq!(scene.destination, [bytes, behind].concat());
             tally.accepted_fetches += 1;
-            tally.joins += u64::from(delivery.met > 1);
-            tally.mixed += u64::from(delivery.fresh > 0 && delivery.replayed > 0);
+            tally.joins += u64::from(met > 1);
+            tally.mixed += u64::from(counts.fresh > 0 && counts.replayed > 0);
             tally.empty += u64::from(length == 0);
+            let records = before.commands[command as usize].records();
+            tally.count_search(records, address + length, counts.looked);
         }
     }
 }
@@ -234,6 +252,8 @@ fn many_small_spans_up_to_the_last_record() {
     assert!(tally.refused(24) > 2_500, "{tally:?}");
     assert!(tally.no_room_writes[1] > 250, "{tally:?}");
     assert!(tally.joins > 500, "{tally:?}");
+    assert!(tally.ended_early > 10_000, "{tally:?}");
+    assert!(tally.before_a_record > 500, "{tally:?}");
 }
 
 #[test]
@@ -295,6 +315,7 @@ fn single_bytes_in_a_row_and_those_between() {
     });
     assert!(tally.refused(24) > 1_000, "{tally:?}");
     assert!(tally.joins > 1_000, "{tally:?}");
+    assert!(tally.before_a_record > 2_500, "{tally:?}");
 }
 
 #[test]

@@ -1,6 +1,6 @@
 //! 450 lists of calls from the fresh book, 150 of each profile; every other call
-//! is a walk. After each walk its spans, the book, the whole store and the window
-//! are held against the model.
+//! is a walk. After each walk its spans, the number of records looked at, the book,
+//! the whole store and the window are held against the model.
 
 use reference::walk::Transfer;
 use sampling::generator::Generator;
@@ -24,6 +24,8 @@ struct Walks {
     replayed: u64,
     /// Refused walks that left something in the book.
     kept: u64,
+    /// Accepted walks that looked at more records than one fetch can.
+    searched: u64,
 }
 
 /// Runs all lists of a profile.
@@ -62,7 +64,7 @@ fn one_walk(
     let mut desk = Desk::of(111 + room(generator), room(generator), room(generator));
     let expected = model.walk(command, walk);
     assert_eq!(
-        scene.walk_at(&mut desk, command, walk),
+        scene.walked_at(&mut desk, command, walk),
         expected,
         "{walk:?}"
     );
@@ -71,7 +73,8 @@ fn one_walk(
     walks.all.count_refusal(&expected);
     let same = scene.book == before;
     match expected {
-        Ok(_) => {
+        Ok((_, looked)) => {
+            walks.searched += u64::from(looked > 64);
             walks.accepted[lists.len()] += 1;
             walks.replayed += u64::from(same && !lists.is_empty());
         }
@@ -194,5 +197,5 @@ fn walks_of_commands_with_many_records() {
         span: |generator, _| spans::every_other(generator, 2_000),
     });
     assert!(walks.all.refused(24) > 100, "{walks:?}");
-    assert!(walks.kept > 250, "{walks:?}");
+    assert!(walks.kept > 250 && walks.searched > 500, "{walks:?}");
 }

@@ -2,7 +2,7 @@
 //! be seen to change none of it.
 
 use reference::book::{Book, CommandBook, Span};
-use reference::cache;
+use reference::cache::{self, Fetched};
 use reference::refusal::Refusal;
 use sampling::generator::Generator;
 
@@ -49,6 +49,12 @@ impl Scene {
 
     /// Answers the fresh and the replayed count.
     pub fn fetch(&mut self, command: u64, address: u64, length: u64) -> Result<(u64, u64), u8> {
+        self.fetched(command, address, length)
+            .map(|counts| (counts.fresh, counts.replayed))
+    }
+
+    /// The same call, with all its counts.
+    pub fn fetched(&mut self, command: u64, address: u64, length: u64) -> Result<Fetched, u8> {
         self.guarded(|scene| {
             cache::fetch(
                 &mut scene.book,
@@ -60,7 +66,6 @@ impl Scene {
                 &mut scene.destination,
             )
         })
-        .map(|counts| (counts.fresh, counts.replayed))
     }
 
     /// Answers the number of records and of bytes.

@@ -23,6 +23,7 @@ mod order_of_walk_refusals;
 mod program;
 mod random_lists;
 mod random_walks;
+mod records_looked_at;
 mod refusal_numbers;
 mod situations;
 mod worked_log;

@@ -64,6 +64,17 @@ impl Scene {
         command: u64,
         transfer: Transfer,
     ) -> Result<Vec<(u64, u64)>, u8> {
+        let walked = self.walked_at(desk, command, transfer);
+        walked.map(|(spans, _)| spans)
+    }
+
+    /// The same call, with how many records were looked at.
+    pub fn walked_at(
+        &mut self,
+        desk: &mut Desk,
+        command: u64,
+        transfer: Transfer,
+    ) -> Result<(Vec<(u64, u64)>, u64), u8> {
         let (scene_before, desk_before) = (self.clone(), desk.clone());
         let lent = Lent {
             scratch: &mut desk.scratch,
@@ -80,14 +91,14 @@ impl Scene {
             assert!(desk.scratch.iter().all(|byte| *byte == 0));
         }
         self.changed_only_what_is_of(command, scene_before);
-        let count = answer.unwrap_or(0) as usize;
+        let count = answer.map_or(0, |walked| walked.spans as usize);
         assert!(desk.addresses[count..] == desk_before.addresses[count..]);
         assert!(desk.lengths[count..] == desk_before.lengths[count..]);
-        answer.map(|_| {
+        answer.map(|walked| {
             let spans = desk.spans(count);
             let total: u64 = spans.iter().map(|span| span.1).sum();
             assert_eq!(total, transfer.length);
-            spans
+            (spans, walked.looked)
         })
     }
 

@@ -129,6 +129,75 @@ void test_fetch_touches(void)
     end(&d, 5, 1, 64);
 }
 
+/* Begins a command and has it hold 10+4, 20+4 and 30+4. */
+static void hold_three(const desk *d, size_t command)
+{
+    begin(d, command);
+    for (size_t start = 10; start <= 30; start += 10)
+        fetch(d, command, start, 4, 4, 0);
+}
+
+/* Fetches among these three records: what they reply, and how many records there are then. */
+static const struct {
+    size_t address, length, fresh, replayed, looked_at, records;
+} among_three[] = {
+    {0, 9, 9, 0, 1, 4},     /* 10 is above 9: it is looked at, and ends the search */
+    {0, 10, 10, 0, 2, 3},   /* 10 is not above 10, and is passed; 20 ends it */
+    {10, 1, 0, 1, 2, 3},    /* 10, and 20 ends it, though all is held */
+    {12, 7, 5, 2, 2, 3},    /* 20 is above 19 */
+    {12, 8, 6, 2, 3, 2},    /* 20 is not above 20; 30 ends it */
+    {12, 17, 11, 6, 3, 2},  /* 30 is above 29 */
+    {12, 18, 12, 6, 3, 1},  /* 30 is not above 30: none is, and all three are looked at */
+    {31, 2, 0, 2, 3, 3},    /* nor above 33 */
+    {40, 5, 5, 0, 3, 4},    /* nor above 45 */
+    {16383, 1, 1, 0, 3, 4}, /* nor above 16,384 */
+    {0, 0, 0, 0, 0, 3},     /* no byte: no record is looked at, wherever it stands */
+    {10, 0, 0, 0, 0, 3},
+    {34, 0, 0, 0, 0, 3},
+    {16384, 0, 0, 0, 0, 3},
+};
+
+void test_fetch_looked_at(void)
+{
+    desk d = fresh_desk(), longest = with_window(d, lend(DOORCLOVER_WINDOW, 7));
+    for (size_t i = 0; i < sizeof among_three / sizeof among_three[0]; i++) {
+        size_t fresh = among_three[i].fresh;
+        hold_three(&d, 0);
+        CHECK(fetch(&d, 0, among_three[i].address, among_three[i].length, fresh,
+                    among_three[i].replayed) == among_three[i].looked_at);
+        end(&d, 0, among_three[i].records, 12 + fresh);
+    }
+    hold_three(&d, 0);
+    begin(&d, 1);
+    CHECK(fetch(&d, 1, 0, 40, 40, 0) == 0); /* it has none, though another command has three */
+    CHECK(fetch(&d, 0, 0, 40, 28, 12) == 3); /* the three that it joins */
+    CHECK(fetch(&d, 0, 0, 40, 0, 40) == 1); /* and what they have become */
+    begin(&d, 2);
+    CHECK(fetch(&longest, 2, 65535, 1, 1, 0) == 0);
+    CHECK(fetch(&longest, 2, 9, 1, 1, 0) == 1); /* 65,535 is above 10 */
+    CHECK(fetch(&longest, 2, 5, 1, 1, 0) == 1); /* 9 is above 6 */
+    CHECK(fetch(&longest, 2, 65535, 1, 0, 1) == 3); /* none is above 65,536, which does not wrap */
+}
+
+/* Of 64 records a fetch within one looks at those up to it and at the next, if there is one. */
+void test_fetch_looked_at_64(void)
+{
+    desk d = fresh_desk();
+    begin(&d, 7);
+    for (size_t i = 1; i < DOORCLOVER_RECORDS; i++)
+        CHECK(fetch(&d, 7, 4 * i, 2, 2, 0) == i - 1); /* all that there are by then */
+    CHECK(fetch(&d, 7, 0, 2, 2, 0) == 1); /* 4 is above 2 */
+    for (size_t i = 0; i < DOORCLOVER_RECORDS - 1; i++)
+        CHECK(fetch(&d, 7, 4 * i, 2, 0, 2) == i + 2);
+    CHECK(fetch(&d, 7, 252, 2, 0, 2) == 64);
+    fetch_refused(&d, DOORCLOVER_TOO_MANY_RECORDS, 7, 300, 1); /* it would look at all, and replies 0 */
+    CHECK(fetch(&d, 7, 254, 1, 1, 0) == 64); /* it touches the last */
+    CHECK(fetch(&d, 7, 2, 2, 2, 0) == 3); /* 0, 4, where it ends, and 8; it joins the first two */
+    CHECK(fetch(&d, 7, 0, 256, 125, 131) == 63); /* all, and joins them */
+    CHECK(fetch(&d, 7, 0, 256, 0, 256) == 1);
+    end(&d, 7, 1, 256);
+}
+
 /* Every fault at once, and then one after the other is mended: the lowest number is given. */
 static void fetch_ladder(desk d)
 {

@@ -182,18 +182,34 @@ void fetch_refused(const desk *d, doorclover_status want, size_t command, size_t
                    size_t length)
 {
     doorclover_fetched r = call_fetch(d, command, address, length);
-    turned_away("fetch", want, r.status, r.fresh | r.replayed);
+    turned_away("fetch", want, r.status, r.fresh | r.replayed | r.looked_at);
 }
 
-void fetch(const desk *d, size_t command, size_t address, size_t length, size_t fresh,
-           size_t replayed)
+/* How many records a fetch looks at: up to the first that starts above its end, that one included. */
+static size_t looks_at(const desk *d, size_t command, size_t address, size_t length)
 {
+    const uint16_t *words = words_of(d, command);
+    size_t n = 0;
+    for (size_t i = 0; length > 0 && i + 1 < words[0]; i++) {
+        n++;
+        if (words[1 + 2 * i] > address + length)
+            break;
+    }
+    return n;
+}
+
+size_t fetch(const desk *d, size_t command, size_t address, size_t length, size_t fresh,
+             size_t replayed)
+{
+    size_t looked_at = looks_at(d, command, address, length);
     doorclover_fetched r = call_fetch(d, command, address, length);
     CHECK(r.status == DOORCLOVER_OK && r.fresh == fresh && r.replayed == replayed);
+    CHECK(r.looked_at == looked_at);
     if (length > 0)
         allow_command(d, command);
     allow(d->destination, 0, length);
     CHECK(all_kept());
+    return r.looked_at;
 }
 
 static doorclover_written call_host(const desk *d, size_t address)
@@ -298,21 +314,29 @@ static doorclover_walked call_walk(const desk *d, const walking *w)
 void walk_refused(const desk *d, doorclover_status want, const walking *w)
 {
     doorclover_walked r = call_walk(d, w);
-    turned_away("walk", want, r.status, r.spans);
+    turned_away("walk", want, r.status, r.spans | r.looked_at);
 }
 
-/* Makes a walk. It leaves what its first fetches would, made one by one, and zeros in its scratch. */
+/*
+ * Makes a walk. It leaves what its first fetches would, made one by one, and zeros in its scratch; if it is
+ * done it has looked at as many records.
+ */
 static doorclover_walked walk_as_fetches(const desk *d, const walking *w, size_t count)
 {
     static doorclover_state state;
     static uint8_t store[DOORCLOVER_STORE], entries[DOORCLOVER_WALK_SCRATCH];
+    size_t looked_at = 0;
     state = *state_of(d);
     memcpy(store, d->store->bytes, sizeof store);
-    for (size_t i = 0; i < count; i++)
-        CHECK(doorclover_fetch(&state, store, sizeof store, d->window->bytes, d->window->size, entries,
-                               sizeof entries, w->command, w->lists[i].address,
-                               w->lists[i].length).status == DOORCLOVER_OK);
+    for (size_t i = 0; i < count; i++) {
+        doorclover_fetched f = doorclover_fetch(&state, store, sizeof store, d->window->bytes,
+                                                d->window->size, entries, sizeof entries, w->command,
+                                                w->lists[i].address, w->lists[i].length);
+        CHECK(f.status == DOORCLOVER_OK);
+        looked_at += f.looked_at;
+    }
     doorclover_walked r = call_walk(d, w);
+    CHECK(r.status != DOORCLOVER_OK || r.looked_at == looked_at);
     CHECK(memcmp(d->state->bytes, &state, sizeof state) == 0);
     CHECK(memcmp(d->store->bytes, store, sizeof store) == 0);
     CHECK(is_zero(d->scratch));
@@ -324,7 +348,7 @@ static doorclover_walked walk_as_fetches(const desk *d, const walking *w, size_t
 void walk_stopped(const desk *d, doorclover_status want, const walking *w, size_t accepted)
 {
     doorclover_walked r = walk_as_fetches(d, w, accepted);
-    turned_away("walk", want, r.status, r.spans);
+    turned_away("walk", want, r.status, r.spans | r.looked_at);
 }
 
 /* Each byte of the transfer counts in its page. */
@@ -336,7 +360,7 @@ static int lengths_are(const desk *d, const walking *w)
     return memcmp(d->lengths->bytes, lengths, w->spans * sizeof lengths[0]) == 0;
 }
 
-void walk(const desk *d, const walking *w)
+size_t walk(const desk *d, const walking *w)
 {
     doorclover_walked r = walk_as_fetches(d, w, 2);
     CHECK(r.status == DOORCLOVER_OK && r.spans == w->spans);
@@ -345,6 +369,7 @@ void walk(const desk *d, const walking *w)
     allow(d->addresses, 0, w->spans * sizeof(uint64_t));
     allow(d->lengths, 0, w->spans * sizeof(uint32_t));
     CHECK(all_kept());
+    return r.looked_at;
 }
 
 void show_refused(const desk *d, doorclover_status want, size_t command, size_t index)

@@ -84,14 +84,18 @@ void write_refused(const desk *d, doorclover_status want, size_t kind, size_t co
  */
 void walk_stopped(const desk *d, doorclover_status want, const walking *w, size_t accepted);
 
-/* A call that is done: its reply is the one wanted, and no byte has changed that it may not change. */
+/*
+ * A call that is done: its reply is the one wanted, and no byte has changed that it may not change. How many
+ * records a fetch looked at is held against the words before it, a walk's number against its fetches, and
+ * each returns it.
+ */
 void begin(const desk *d, size_t command);
 void end(const desk *d, size_t command, size_t records, size_t bytes);
-void fetch(const desk *d, size_t command, size_t address, size_t length, size_t fresh,
-           size_t replayed);
+size_t fetch(const desk *d, size_t command, size_t address, size_t length, size_t fresh,
+             size_t replayed);
 void host_write(const desk *d, size_t address);
 void own_write(const desk *d, size_t command, size_t address, size_t fresh);
-void walk(const desk *d, const walking *w);
+size_t walk(const desk *d, const walking *w);
 void show(const desk *d, size_t command, size_t index, size_t start, size_t length);
 
 /* Were just these refusals seen, of a call by its name? The numbers end with 0. */

@@ -74,7 +74,7 @@ static int retire_list(void)
     if (doorclover_host_write(window, sizeof window, 64, &forty, 1).bytes != 1)
         return 0;
     f = doorclover_fetch(&state, store, sizeof store, window, sizeof window, list, 9, 3, 64, 9);
-    if (f.fresh != 8 || f.replayed != 1 || list[0] != 4 || window[64] != 40)
+    if (f.fresh != 8 || f.replayed != 1 || f.looked_at != 1 || list[0] != 4 || window[64] != 40)
         return 0;
     return doorclover_end(&state, store, sizeof store, 3).bytes == 9;
 }

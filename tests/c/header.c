@@ -84,8 +84,8 @@ typedef struct {
     doorclover_replayed replayed;
 } replies;
 
-extern void point(replies *r, uint32_t *narrow[9], uint16_t *half[2], size_t *wide[16]);
-void point(replies *r, uint32_t *narrow[9], uint16_t *half[2], size_t *wide[16])
+extern void point(replies *r, uint32_t *narrow[9], uint16_t *half[2], size_t *wide[18]);
+void point(replies *r, uint32_t *narrow[9], uint16_t *half[2], size_t *wide[18])
 {
     narrow[0] = &r->begun.status;
     narrow[1] = &r->fetched.status;
@@ -114,6 +114,8 @@ void point(replies *r, uint32_t *narrow[9], uint16_t *half[2], size_t *wide[16])
     wide[13] = &r->replayed.carried;
     wide[14] = &r->replayed.refused;
     wide[15] = &r->walked.spans;
+    wide[16] = &r->fetched.looked_at;
+    wide[17] = &r->walked.looked_at;
 }
 
 /* A status can be compared and switched on without a warning. */

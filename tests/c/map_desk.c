@@ -126,7 +126,7 @@ static doorclover_fetched call_fetch(const map_desk *m, size_t address, size_t l
 void map_fetch_refused(const map_desk *m, doorclover_status want, size_t address, size_t length)
 {
     doorclover_fetched r = call_fetch(m, address, length);
-    turned_away("map fetch", want, r.status, r.fresh | r.replayed);
+    turned_away("map fetch", want, r.status, r.fresh | r.replayed | r.looked_at);
 }
 
 /* What is to be delivered is not there before the call. */
@@ -145,6 +145,7 @@ void map_fetch(const map_desk *m, size_t address, size_t length, size_t fresh, s
     }
     doorclover_fetched r = call_fetch(m, address, length);
     CHECK(r.status == DOORCLOVER_OK && r.fresh == fresh && r.replayed == replayed);
+    CHECK(r.looked_at == 0); /* there are no records */
     CHECK(memcmp(bits_of(m), words, sizeof words) == 0);
     CHECK(memcmp(m->values->bytes, values, sizeof values) == 0);
     CHECK(length == 0 || memcmp(m->destination->bytes, values + address, length) == 0);

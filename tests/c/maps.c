@@ -195,7 +195,10 @@ static int runs_are_records(const map_desk *m, const desk *d, size_t command)
     return doorclover_show(state_of(d), command, index).status == DOORCLOVER_NO_SUCH_RECORD;
 }
 
-/* The calls of a map and of a command, with the same numbers and equal windows. Each returns the status. */
+/*
+ * The calls of a map and of a command, with the same numbers and equal windows. Each returns the status.
+ * Replies are compared without the records that a fetch looks at, which a map has none of.
+ */
 static doorclover_status made_begin(const map_desk *m, const desk *d, size_t command)
 {
     doorclover_status status = doorclover_map_begin(open_of(m), bits_of(m), m->values->bytes).status;
@@ -222,6 +225,7 @@ static doorclover_status made_fetch(const map_desk *m, const desk *d, size_t com
                                             d->window->bytes, d->window->size,
                                             d->destination->bytes, room, command, address, length);
     CHECK(r.status == s.status && r.fresh == s.fresh && r.replayed == s.replayed);
+    CHECK(r.looked_at == 0);
     return r.status;
 }
 

@@ -553,6 +553,49 @@ void test_walk_again(void)
     end(&d, COMMAND, 1, 8 * ENTRY);
 }
 
+/* The records that its list fetches look at, added up. */
+void test_walk_looked_at(void)
+{
+    desk d = fresh_desk();
+    walking none = direct(page(0), page(1), 2 * PAGE), list = pages_listed(&d, PAGE, 0, 5);
+    walking lists = in_two_lists(&d);
+    begin(&d, COMMAND);
+    CHECK(walk(&d, &lists) == 0 + 1); /* at 8,128 and at 12,288: the second sees the first */
+    CHECK(walk(&d, &lists) == 2 + 2); /* 8,128, and 12,288, which is above 8,192; then both */
+    end(&d, COMMAND, 2, 17 * ENTRY);
+
+    begin(&d, COMMAND);
+    CHECK(walk(&d, &list) == 0); /* at 4,096 */
+    fetch(&d, COMMAND, 100, 1, 1, 0);
+    fetch(&d, COMMAND, 5000, 1, 1, 0);
+    fetch(&d, COMMAND, 9000, 1, 1, 0);
+    CHECK(walk(&d, &none) == 0); /* PRP2 is a page, and there is no list */
+    CHECK(walk(&d, &list) == 3); /* 100, 4,096, and 5,000, which is above 4,128 */
+    CHECK(walk(&d, &lists) == 4 + 5); /* these and 9,000; then 8,128 too, and none is above */
+    CHECK(walk(&d, &lists) == 5 + 6); /* with 8,128; then with 12,288 too */
+    end(&d, COMMAND, 6, 3 + 21 * ENTRY);
+
+    lists = pages_listed(&d, 2 * PAGE - 8 * ENTRY, 0, SPANS); /* onward to 0 */
+    begin(&d, COMMAND);
+    fetch(&d, COMMAND, 2 * PAGE, 1, 1, 0);
+    CHECK(walk(&d, &lists) == 1 + 1); /* 8,192, where the first ends; then what the two have become */
+    CHECK(walk(&d, &lists) == 2 + 2); /* 0 and 8,128, each time */
+    end(&d, COMMAND, 2, 17 * ENTRY + 1);
+}
+
+/* The most that a walk looks at: 64 records for each list. */
+void test_walk_looked_at_most(void)
+{
+    desk d = fresh_desk();
+    walking w = in_two_lists(&d);
+    begin(&d, COMMAND);
+    for (size_t i = 0; i < 62; i++)
+        fetch(&d, COMMAND, 2 * i, 1, 1, 0);
+    CHECK(walk(&d, &w) == 62 + 63);
+    CHECK(walk(&d, &w) == 64 + 64); /* 12,288, the second list, is above 8,192, the end of the first */
+    end(&d, COMMAND, 64, 62 + 17 * ENTRY);
+}
+
 /* Entries that were fetched before, whole and in part, are as they were then; the others are the host's. */
 void test_walk_held(void)
 {

@@ -66,13 +66,42 @@ static size_t map_window_size = DOORCLOVER_MAP_ADDRESSES;
 
 /*
  * The model: in which turn of a command a byte was fetched or written by it, what it wrote there last in this turn or else what the
- * first fetch met, and how many such bytes there are. The byte map's command stands behind the others.
+ * first fetch met, and how many such bytes there are; and its records, in no order. The byte map's command stands behind the others.
  */
 enum { MAP = DOORCLOVER_COMMANDS, COMMANDS };
 static uint32_t turn[COMMANDS];
 static size_t bytes[COMMANDS];
 static uint32_t held_in[COMMANDS][DOORCLOVER_WINDOW];
 static uint8_t value[COMMANDS][DOORCLOVER_WINDOW];
+static struct record {
+    size_t start, end;
+} records[COMMANDS][DOORCLOVER_RECORDS];
+static size_t record_count[COMMANDS];
+
+/* The span and the records that share a byte with it or touch it become one. */
+static void join(size_t command, size_t start, size_t end) {
+    size_t kept = 0;
+    if (start == end) return;
+    for (size_t i = 0; i < record_count[command]; i++) {
+        struct record r = records[command][i];
+        if (r.start > end || r.end < start) {
+            records[command][kept++] = r;
+        } else {
+            if (r.start < start) start = r.start;
+            if (r.end > end) end = r.end;
+        }
+    }
+    records[command][kept] = (struct record){start, end};
+    record_count[command] = kept + 1;
+}
+
+/* How many records a fetch looks at: those that start at its end or below, and one more if there is one. */
+static size_t looks_at(size_t command, size_t address, size_t length) {
+    size_t passed = 0;
+    if (length == 0) return 0;
+    for (size_t i = 0; i < record_count[command]; i++) passed += records[command][i].start <= address + length;
+    return passed < record_count[command] ? passed + 1 : passed;
+}
 
 /* Has the command hold the span, says which of its bytes are to be loaded, and returns their number. */
 static size_t hold(size_t command, size_t address, size_t length) {
@@ -91,6 +120,7 @@ static size_t hold(size_t command, size_t address, size_t length) {
         }
     }
     bytes[command] += fresh;
+    join(command, address, address + length);
     return fresh;
 }
 
@@ -104,6 +134,7 @@ static size_t hold_given(size_t command, size_t address, size_t size) {
         value[command][address + i] = given[i];
     }
     bytes[command] += fresh;
+    join(command, address, address + size);
     return fresh;
 }
 
@@ -121,6 +152,7 @@ static void begin(const char *text, size_t command) {
     printf("call %s\npart %zu\nnone\n", text, command);
     turn[command]++;
     bytes[command] = 0;
+    record_count[command] = 0;
     marker = 1;
     doorclover_begun r = doorclover_begin(state, store, store_size, command);
     marker = 0;
@@ -145,18 +177,18 @@ static doorclover_fetched call_fetch(size_t command, size_t address, size_t leng
 
 static void fetch(const char *text, size_t command, size_t address, size_t length) {
     printf("call %s\npart %zu\n", text, command);
-    size_t fresh = hold(command, address, length);
+    size_t looked_at = looks_at(command, address, length), fresh = hold(command, address, length);
     printf("deliver %zu %zu\n", address, length);
     for (size_t i = 0; i < length; i++) destination[i] = (uint8_t)~value[command][address + i];
     doorclover_fetched r = call_fetch(command, address, length);
-    bool counts = r.status == 0 && r.fresh == fresh && r.replayed == length - fresh;
+    bool counts = r.status == 0 && r.fresh == fresh && r.replayed == length - fresh && r.looked_at == looked_at;
     reply(counts && delivered(command, address, length), r.fresh, r.replayed, r.status);
 }
 
 static void refused_fetch(const char *text, uint32_t status, size_t command, size_t address, size_t length) {
     printf("call %s\n", text);
     doorclover_fetched r = call_fetch(command, address, length);
-    reply(r.status == status && r.fresh == 0 && r.replayed == 0, r.fresh, r.replayed, r.status);
+    reply(r.status == status && r.fresh == 0 && r.replayed == 0 && r.looked_at == 0, r.fresh, r.replayed, r.status);
 }
 
 /* A page entry, least byte first. */
@@ -180,12 +212,13 @@ struct walk {
     size_t command;
     uint64_t prp1, prp2;
     size_t transfer;
-    size_t spans, fresh, listed;
+    size_t spans, fresh, listed, looked_at;
     uint64_t pages[DOORCLOVER_WALK_SPANS];
 };
 
 /* Has the command hold the entries of a list, which are pages of the walk from a span on. */
 static void hold_entries(struct walk *w, size_t address, size_t count, size_t span) {
+    w->looked_at += looks_at(w->command, address, ENTRY * count);
     w->fresh += hold(w->command, address, ENTRY * count);
     w->listed += ENTRY * count;
     printf("entries %zu %zu\n", address, ENTRY * count);
@@ -221,7 +254,8 @@ static void walk(const char *text, struct walk w) {
     hold_lists(&w, 2);
     printf("scratch %d\nspans %zu\n", SCRATCH, w.spans);
     doorclover_walked r = call_walk(&w);
-    reply(r.status == 0 && r.spans == w.spans && given_spans(&w), w.fresh, w.listed - w.fresh, r.status);
+    bool counts = r.status == 0 && r.spans == w.spans && r.looked_at == w.looked_at;
+    reply(counts && given_spans(&w), w.fresh, w.listed - w.fresh, r.status);
 }
 
 /* A walk that is refused from PRP1 on, when so many of its lists are fetched. */
@@ -230,13 +264,13 @@ static void stopped_walk(const char *text, uint32_t status, size_t lists, struct
     hold_lists(&w, lists);
     printf("scratch %d\n", SCRATCH);
     doorclover_walked r = call_walk(&w);
-    reply(r.status == status && r.spans == 0, w.fresh, w.listed - w.fresh, r.status);
+    reply(r.status == status && r.spans == 0 && r.looked_at == 0, w.fresh, w.listed - w.fresh, r.status);
 }
 
 static void refused_walk(const char *text, uint32_t status, struct walk w) {
     printf("call %s\n", text);
     doorclover_walked r = call_walk(&w);
-    reply(r.status == status && r.spans == 0, 0, 0, r.status);
+    reply(r.status == status && r.spans == 0 && r.looked_at == 0, 0, 0, r.status);
 }
 
 /* A walk of so many pages, whose list starts at an address of the window. */
@@ -266,6 +300,7 @@ static void map_begin(const char *text) {
     printf("call %s\nmap\nnone\n", text);
     turn[MAP]++;
     bytes[MAP] = 0;
+    record_count[MAP] = 0;
     marker = 1;
     doorclover_begun r = doorclover_map_begin(&map_open, map_words, values);
     marker = 0;
@@ -294,14 +329,14 @@ static void map_fetch(const char *text, size_t address, size_t length) {
     printf("deliver %zu %zu\n", address, length);
     for (size_t i = 0; i < length; i++) destination[i] = (uint8_t)~value[MAP][address + i];
     doorclover_fetched r = call_map_fetch(address, length);
-    bool counts = r.status == 0 && r.fresh == fresh && r.replayed == length - fresh;
+    bool counts = r.status == 0 && r.fresh == fresh && r.replayed == length - fresh && r.looked_at == 0;
     reply(counts && delivered(MAP, address, length), r.fresh, r.replayed, r.status);
 }
 
 static void refused_map_fetch(const char *text, uint32_t status, size_t address, size_t length) {
     printf("call %s\nmap\n", text);
     doorclover_fetched r = call_map_fetch(address, length);
-    reply(r.status == status && r.fresh == 0 && r.replayed == 0, r.fresh, r.replayed, r.status);
+    reply(r.status == status && r.fresh == 0 && r.replayed == 0 && r.looked_at == 0, r.fresh, r.replayed, r.status);
 }
 
 /* What the next write is given: other bytes than the one before it. */

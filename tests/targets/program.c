@@ -33,17 +33,17 @@ static void retire_list(void) {
     check(doorclover_host_write(window, sizeof window, 101, four, sizeof four).bytes == 4, "host write");
     doorclover_fetched r =
         doorclover_fetch(&state, store, sizeof store, window, sizeof window, destination, sizeof destination, 3, 101, 4);
-    check(r.status == 0 && r.fresh == 4 && r.replayed == 0 && destination[0] == 4, "first fetch");
+    check(r.status == 0 && r.fresh == 4 && r.replayed == 0 && r.looked_at == 0 && destination[0] == 4, "first fetch");
     check(doorclover_host_write(window, sizeof window, 101, forty, sizeof forty).bytes == 4, "second host write");
     r = doorclover_fetch(&state, store, sizeof store, window, sizeof window, destination, sizeof destination, 3, 99, 8);
-    check(r.status == 0 && r.fresh == 4 && r.replayed == 4 && destination[2] == 4, "second fetch");
+    check(r.status == 0 && r.fresh == 4 && r.replayed == 4 && r.looked_at == 1 && destination[2] == 4, "second fetch");
     check(doorclover_own_write(&state, store, sizeof store, window, sizeof window, 3, 101, four, 1).bytes == 1, "own write");
     doorclover_shown s = doorclover_show(&state, 3, 0);
     check(s.status == 0 && s.start == 99 && s.length == 8, "show");
     doorclover_ended e = doorclover_end(&state, store, sizeof store, 3);
     check(e.status == 0 && e.records == 1 && e.bytes == 8, "end");
     r = doorclover_fetch(&state, store, sizeof store, window, sizeof window, destination, sizeof destination, 3, 101, 4);
-    check(r.status == DOORCLOVER_COMMAND_NOT_OPEN && r.fresh == 0 && r.replayed == 0, "fetch after the end");
+    check(r.status == DOORCLOVER_COMMAND_NOT_OPEN && r.fresh == 0 && r.replayed == 0 && r.looked_at == 0, "fetch after the end");
 }
 
 /* The host changes the bytes between two fetches of the byte map, over the edge of a word. */
@@ -56,7 +56,7 @@ static void byte_map(void) {
     check(r.status == 0 && r.fresh == 4 && r.replayed == 0 && destination[0] == 4, "first fetch of the map");
     window[62] = 40;
     r = doorclover_map_fetch(&map.open, map.words, map.values, window, 4096, destination, sizeof destination, 60, 8);
-    check(r.status == 0 && r.fresh == 4 && r.replayed == 4 && destination[2] == 4, "second fetch of the map");
+    check(r.status == 0 && r.fresh == 4 && r.replayed == 4 && r.looked_at == 0 && destination[2] == 4, "second fetch of the map");
     check(map.words[0] == (uint64_t)15 << 60 && map.words[1] == 15 && map.values[62] == 4, "the map");
     r = doorclover_map_fetch(&map.open, map.words, map.values, window, 4097, destination, sizeof destination, 4097, 1);
     check(r.status == DOORCLOVER_WINDOW_BEYOND_MAP && r.fresh == 0 && r.replayed == 0, "fetch of the map with a longer window");
@@ -121,10 +121,10 @@ static doorclover_walked walk_pages(void) {
                            lengths, 20, 3, 0x123456789abcdff8, 8192 - 16, 8 + 3 * 4096 + 1);
 }
 
-/* Are these the spans, and is the scratch zero? */
-static int walked(doorclover_walked r) {
+/* Are these the spans, were so many records looked at, and is the scratch zero? */
+static int walked(doorclover_walked r, size_t looked_at) {
     static const uint64_t pages[] = {0x123456789abcdff8, 0xfedcba9876543000, 0, 4096, 0xfffffffffffff000};
-    int right = r.status == 0 && r.spans == 5 && lengths[0] == 8 && lengths[4] == 1;
+    int right = r.status == 0 && r.spans == 5 && r.looked_at == looked_at && lengths[0] == 8 && lengths[4] == 1;
     for (size_t i = 0; i < 5; i++) right &= addresses[i] == pages[i] && (i % 4 == 0 || lengths[i] == 4096);
     for (size_t i = 0; i < sizeof scratch; i++) right &= scratch[i] == 0;
     return right;
@@ -138,15 +138,15 @@ static void page_list(void) {
     put_entry(12288 + 8, 4096);
     put_entry(12288 + 16, 0xfffffffffffff000);
     check(doorclover_begin(&state, store, sizeof store, 3).status == 0, "begin of the page list");
-    check(walked(walk_pages()), "walk");
+    check(walked(walk_pages(), 0 + 1), "walk");
     put_entry(8192 - 16, 1);
     put_entry(12288 + 8, 1);
-    check(walked(walk_pages()), "walk again");
+    check(walked(walk_pages(), 2 + 2), "walk again");
     doorclover_ended e = doorclover_end(&state, store, sizeof store, 3);
     check(e.status == 0 && e.records == 2 && e.bytes == 40, "end of the page list");
     check(doorclover_begin(&state, store, sizeof store, 3).status == 0, "second begin of the page list");
     doorclover_walked r = walk_pages();
-    check(r.status == DOORCLOVER_ENTRY_MISALIGNED && r.spans == 0 && scratch[0] == 0, "walk of a wrong entry");
+    check(r.status == DOORCLOVER_ENTRY_MISALIGNED && r.spans == 0 && r.looked_at == 0 && scratch[0] == 0, "walk of a wrong entry");
     e = doorclover_end(&state, store, sizeof store, 3);
     check(e.status == 0 && e.records == 1 && e.bytes == 16, "second end of the page list");
 }
@@ -190,13 +190,16 @@ static size_t made_length(void) {
     return made(60) == 0 ? 4090 + made(8) : made(4) == 0 ? made(300) : made(9);
 }
 
-static void fetch(size_t command, size_t address, size_t length) {
-    size_t room = made(30) == 0 ? made(sizeof destination) : sizeof destination;
-    doorclover_fetched r =
-        doorclover_fetch(&state, store, sizeof store, window, sizeof window, destination, room, command, address, length);
+static void add_fetched(doorclover_fetched r) {
     add_number(r.status);
     add_number(r.fresh);
     add_number(r.replayed);
+    add_number(r.looked_at);
+}
+
+static void fetch(size_t command, size_t address, size_t length) {
+    size_t room = made(30) == 0 ? made(sizeof destination) : sizeof destination;
+    add_fetched(doorclover_fetch(&state, store, sizeof store, window, sizeof window, destination, room, command, address, length));
 }
 
 /* Makes the bytes of a write, no more than there is room for, and returns how many. */
@@ -236,11 +239,7 @@ static void frame(size_t command, size_t address, size_t length) {
 static void map_fetch(size_t address, size_t length) {
     size_t room = made(30) == 0 ? made(sizeof destination) : sizeof destination;
     size_t size = made(20) == 0 ? 4090 + made(9) : 4096;
-    doorclover_fetched r =
-        doorclover_map_fetch(&map.open, map.words, map.values, window, size, destination, room, address, length);
-    add_number(r.status);
-    add_number(r.fresh);
-    add_number(r.replayed);
+    add_fetched(doorclover_map_fetch(&map.open, map.words, map.values, window, size, destination, room, address, length));
 }
 
 static void map_write(size_t address, size_t length) {
@@ -273,6 +272,7 @@ static void walk(size_t command) {
                                           lengths, places, command, prp1, prp2, transfer);
     add_number(r.status);
     add_number(r.spans);
+    add_number(r.looked_at);
     add(scratch, sizeof scratch);
     add(addresses, sizeof addresses);
     add(lengths, sizeof lengths);

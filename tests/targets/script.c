@@ -222,7 +222,7 @@ static int map_call(uint64_t *answer, uint64_t seed) {
     if (strcmp(name, "map-fetch") == 0) {
         span(&a, &n);
         doorclover_fetched r = doorclover_map_fetch(&map->open, map->words, map->values, LENT(WINDOW), LENT(DESTINATION), a, n);
-        ANSWER(r.status, r.fresh, r.replayed);
+        ANSWER(r.status, r.fresh, r.replayed, r.looked_at);
     }
     if (strcmp(name, "map-own") == 0) {
         span(&a, &n);
@@ -239,7 +239,7 @@ static int walk_call(uint64_t *answer) {
     doorclover_walked r = doorclover_walk(&ground.state, LENT(STORE), LENT(WINDOW), LENT(SCRATCH),
                                           (uint64_t *)(void *)ground.bytes[ADDRESSES], ground.lent[ADDRESSES],
                                           (uint32_t *)(void *)ground.bytes[LENGTHS], ground.lent[LENGTHS], c, prp1, prp2, transfer);
-    ANSWER(r.status, r.spans);
+    ANSWER(r.status, r.spans, r.looked_at);
 }
 
 /* Makes the call of the line and returns how many numbers its answer has, or -1 if it is no call. */
@@ -291,7 +291,7 @@ static int call(uint64_t *answer, uint64_t seed) {
     span(&a, &n);
     if (strcmp(name, "fetch") == 0) {
         doorclover_fetched r = doorclover_fetch(state, LENT(STORE), LENT(WINDOW), LENT(DESTINATION), c, a, n);
-        ANSWER(r.status, r.fresh, r.replayed);
+        ANSWER(r.status, r.fresh, r.replayed, r.looked_at);
     }
     if (strcmp(name, "own") == 0) {
         make_bytes(data, n, seed);

@@ -4,7 +4,7 @@
 //! A [`Cache`] that is `CHECKED` looks at its whole state at every call, as one
 //! must that gets the state from somebody else. The other relies on owning it.
 
-use crate::meeting::{passed, Meeting};
+use crate::meeting::{looked_at, passed, Meeting};
 use crate::state::{
     end, held, start, Command, Record, State, COMMANDS, HELD, RECORDS, STORE, TRANSFER, WINDOW,
 };
@@ -12,6 +12,28 @@ use crate::walk::{take, Lists, Transfer, ENTRIES, ENTRY, SCRATCH};
 
 /// Two numbers of a reply.
 pub type Counts = (usize, usize);
+
+/// The fresh and the replayed bytes of a fetch, and how many records its search
+/// looked at.
+pub struct Fetched {
+    pub fresh: usize,
+    pub replayed: usize,
+    pub looked_at: usize,
+}
+
+/// The spans of a walk, and how many records all its list fetches looked at.
+pub struct Walked {
+    pub spans: usize,
+    pub looked_at: usize,
+}
+
+/// A span that is held: where in the part it stands, how many of its bytes are new,
+/// and how many records were looked at for it.
+struct Span {
+    place: usize,
+    new: usize,
+    looked_at: usize,
+}
 
 /// The state, and whether it is checked at each call.
 pub struct Cache<const CHECKED: bool> {
@@ -115,7 +137,8 @@ impl<const CHECKED: bool> Cache<CHECKED> {
         }
         let entry = &mut self.state.commands[command];
         let part = part(store, command);
-        let (place, new) = hold(entry, part, address, address + bytes.len(), |_, _| {})?;
+        let stop = address + bytes.len();
+        let Span { place, new, .. } = hold(entry, part, address, stop, |_, _| {})?;
         part[place..][..bytes.len()].copy_from_slice(bytes);
         window[address..][..bytes.len()].copy_from_slice(bytes);
         Ok((bytes.len(), new))
@@ -133,7 +156,6 @@ impl<const CHECKED: bool> Cache<CHECKED> {
             .ok_or(25)
     }
 
-    /// Replies the fresh and the replayed bytes.
     #[inline(never)]
     pub fn fetch(
         &mut self,
@@ -143,7 +165,7 @@ impl<const CHECKED: bool> Cache<CHECKED> {
         command: usize,
         address: usize,
         length: usize,
-    ) -> Result<Counts, u8> {
+    ) -> Result<Fetched, u8> {
         refuse(4, length > TRANSFER)?;
         refuse(6, command >= COMMANDS)?;
         refuse(7, window.len() > WINDOW)?;
@@ -153,18 +175,26 @@ impl<const CHECKED: bool> Cache<CHECKED> {
         self.check()?;
         self.opened(command)?;
         if length == 0 {
-            return Ok((0, 0));
+            return Ok(Fetched {
+                fresh: 0,
+                replayed: 0,
+                looked_at: 0,
+            });
         }
         let entry = &mut self.state.commands[command];
         let part = part(store, command);
         let read = |gap: &mut [u8], from: usize| read(window, gap, from);
-        let (place, fresh) = hold(entry, part, address, address + length, read)?;
-        destination[..length].copy_from_slice(&part[place..][..length]);
-        Ok((fresh, length - fresh))
+        let span = hold(entry, part, address, address + length, read)?;
+        destination[..length].copy_from_slice(&part[span.place..][..length]);
+        Ok(Fetched {
+            fresh: span.new,
+            replayed: length - span.new,
+            looked_at: span.looked_at,
+        })
     }
 
-    /// Replies the number of spans. The state is checked once, and the entries are
-    /// taken from where they are held.
+    /// The state is checked once, and the entries are taken from where they are
+    /// held.
     #[inline(never)]
     pub fn walk(
         &mut self,
@@ -174,7 +204,7 @@ impl<const CHECKED: bool> Cache<CHECKED> {
         lists: Lists,
         command: usize,
         transfer: &Transfer,
-    ) -> Result<usize, u8> {
+    ) -> Result<Walked, u8> {
         transfer.check()?;
         refuse(10, scratch.len() < SCRATCH || lists.are_short())?;
         refuse(6, command >= COMMANDS)?;
@@ -186,17 +216,22 @@ impl<const CHECKED: bool> Cache<CHECKED> {
         let part = part(store, command);
         let mut entries = [0; ENTRIES];
         let behind = &mut entries[..transfer.pages() - 1];
+        let mut looked_at = 0;
         let followed = transfer.follow(behind, |address, entries| {
             let length = ENTRY * entries.len();
             refuse(9, outside(window, address, length))?;
             let read = |gap: &mut [u8], from: usize| read(window, gap, from);
-            let (place, _) = hold(entry, part, address, address + length, read)?;
-            take(&part[place..][..length], entries)
+            let span = hold(entry, part, address, address + length, read)?;
+            looked_at += span.looked_at;
+            take(&part[span.place..][..length], entries)
         });
         scratch.fill(0);
         followed?;
         lists.addresses[1..][..behind.len()].copy_from_slice(behind);
-        Ok(lists.put(transfer))
+        Ok(Walked {
+            spans: lists.put(transfer),
+            looked_at,
+        })
     }
 }
 
@@ -205,25 +240,31 @@ fn read(window: &[u8], gap: &mut [u8], from: usize) {
     gap.copy_from_slice(&window[from..][..gap.len()]);
 }
 
-/// Holds a span of a byte or more, whose gaps are filled by address, and answers
-/// where in the part it stands and how many of its bytes are new.
+/// Holds a span of a byte or more, whose gaps are filled by address.
 fn hold(
     entry: &mut Command,
     part: &mut [u8],
     address: usize,
     stop: usize,
     fill: impl FnMut(&mut [u8], usize),
-) -> Result<Counts, u8> {
+) -> Result<Span, u8> {
     let records = entry.records();
     let (first, below) = passed(records, address);
     match records.get(first) {
-        Some(record) if start(*record) <= address && stop <= end(*record) => {
-            Ok((below + address - start(*record), 0))
-        }
+        Some(record) if start(*record) <= address && stop <= end(*record) => Ok(Span {
+            place: below + address - start(*record),
+            new: 0,
+            looked_at: looked_at(records, first + 1),
+        }),
         _ => {
             let meeting = Meeting::of(records, first, address, stop);
+            let looked_at = looked_at(records, meeting.last);
             join(entry, part, &meeting, below, fill)?;
-            Ok((below + address - meeting.low, meeting.fresh()))
+            Ok(Span {
+                place: below + address - meeting.low,
+                new: meeting.fresh(),
+                looked_at,
+            })
         }
     }
 }

@@ -102,7 +102,7 @@ fn call<const CHECKED: bool>(
                 frame.address,
                 frame.length,
             )
-            .map(|counts| Reply::Fetched(counts, frame.length)),
+            .map(|reply| Reply::Fetched((reply.fresh, reply.replayed), frame.length)),
     }
 }
 

@@ -16,6 +16,12 @@ pub fn passed(records: &[Record], address: usize) -> (usize, usize) {
     (count, bytes)
 }
 
+/// How many records a search looks at where so many start at the end of its span
+/// or below: the one behind them, if there is one, ends it.
+pub fn looked_at(records: &[Record], last: usize) -> usize {
+    records.len().min(last + 1)
+}
+
 /// A span shares a byte with the records from `first` up to `last` or touches
 /// them, and reaches with them from `low` up to `high`; they hold so many bytes.
 pub struct Meeting {

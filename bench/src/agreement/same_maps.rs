@@ -82,8 +82,9 @@ impl<M: Map> Party<M> {
         }
     }
 
+    /// Its answer, without records looked at: a map has none.
     fn make(&mut self, call: Call) -> Answer {
-        match call {
+        let answer: Answer = match call {
             Call::Begin => self.map.begin().into(),
             Call::End => self.map.end().into(),
             Call::Fetch { address, length } => {
@@ -94,7 +95,8 @@ impl<M: Map> Party<M> {
                 let (window, bytes) = self.memory.write(address, length);
                 self.map.own_write(window, address, bytes).into()
             }
-        }
+        };
+        answer.without_search()
     }
 
     /// Whether another has the same parts and buffers.
@@ -179,7 +181,7 @@ impl Scene {
                 reply.into()
             }
         };
-        if other == answer && *memory == self.proved.memory {
+        if other.without_search() == answer && *memory == self.proved.memory {
             Ok(answer)
         } else {
             Err(told(call, answer))

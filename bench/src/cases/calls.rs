@@ -25,6 +25,7 @@ pub fn all() -> Vec<Case> {
     for records in RECORDS {
         cases.extend(LENGTHS.map(|length| fresh(length, records)));
     }
+    cases.extend(RECORDS.into_iter().flat_map(searches));
     cases.extend(RECORDS.map(overlap));
     cases.push(below());
     cases.extend(eight_loads());
@@ -130,6 +131,21 @@ fn name_of(what: &str, length: usize, records: usize) -> String {
         counted(length, "byte"),
         counted(records, "record")
     )
+}
+
+/// One of so many records, each of a byte, is fetched again: the first, one in the
+/// middle and the last, which are the same if there is but one.
+fn searches(records: usize) -> Vec<Case> {
+    let (middle, last) = ((records - 1) / 2, records - 1);
+    let mut places = vec![("first", 0), ("middle", middle), ("last", last)];
+    places.dedup_by_key(|(_, place)| *place);
+    let all = counted(records, "record");
+    let case = |(which, place): (&str, usize)| {
+        let name = format!("replayed, 1 byte, {which} of {all}");
+        let before = filled(COMMAND, records).collect();
+        repeated(Group::Search, &name, records, before, fetch(2 * place, 1))
+    };
+    places.into_iter().map(case).collect()
 }
 
 /// A fetch that makes one record of several.

@@ -4,10 +4,10 @@
 //! window. The spans of a walk go into its lists.
 
 use crate::answer::Answer;
-use crate::call::{make, Call, Last};
+use crate::call::{answers, Call};
 use crate::cases::{Case, Subject};
-use crate::memory::{Desk, Memory};
-use crate::programs::{Cache, Ordinary};
+use crate::memory::Desk;
+use crate::programs::Ordinary;
 use plain::journal::replay;
 
 /// The bytes of a span: an address and a length.
@@ -22,25 +22,17 @@ pub fn by_case(case: &Case) -> usize {
 }
 
 fn by_calls(before: &[Call], unit: &[Call]) -> usize {
-    let mut cache = Ordinary::<true>::new();
-    let mut memory = Memory::new();
-    let mut answer = |call: &Call| {
-        let mut last = Last(Answer::Unknown);
-        make(&mut cache, &mut memory, *call, &mut last);
-        last.0
-    };
-    for call in before {
-        answer(call);
-    }
-    unit.iter().map(|call| by_call(*call, answer(call))).sum()
+    let answers = answers::<Ordinary<true>>(before, unit);
+    let answered = unit.iter().zip(answers);
+    answered.map(|(call, answer)| by_call(*call, answer)).sum()
 }
 
 fn by_call(call: Call, answer: Answer) -> usize {
     match (call, answer) {
-        (Call::Fetch { .. }, Answer::Numbers(fresh, replayed)) => 2 * fresh + replayed,
+        (Call::Fetch { .. }, Answer::Searched(fresh, replayed, _)) => 2 * fresh + replayed,
         (Call::HostWrite { .. }, Answer::Numbers(bytes, _)) => bytes,
         (Call::OwnWrite { .. }, Answer::Numbers(bytes, _)) => 2 * bytes,
-        (Call::Walk { .. }, Answer::Numbers(spans, _)) => SPAN * spans,
+        (Call::Walk { .. }, Answer::Searched(spans, ..)) => SPAN * spans,
         _ => 0,
     }
 }

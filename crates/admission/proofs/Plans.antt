@@ -1,18 +1,23 @@
 -- What the search of a command's records gives, in the numbers of the code: it is `join`'s, and its sums stay small.
 use Prim.Native.Nat.{ℕ, _+_, _-_, _≤_, _<_, min}
 use native.Mathlib.Omega.{arith}
-use mathlib.Core.Path.{_≡_, ap}
+use mathlib.Core.Path.{_≡_, refl, ap}
 use mathlib.Core.Bool.{true}
 use lib.ListN.{length, take, drop, take-append-drop}
 use Rattle.state.specs.State.{CommandState, recordsIn, commandHolds}
 use Rattle.state.specs.declared.Meeting.{Meeting}
 use Rattle.state.specs.Join.{Join, meeting, spliced, join, Judged}
 use Rattle.state.specs.Limits.{heldLimit, windowLimit}
-use Rattle.state.specs.Records.{total}
+use Rattle.state.specs.Records.{total, lookedUpTo}
 use Rattle.state.proofs.Join.{join-judged}
 use Rattle.state.proofs.Commands.{Kept, kept-command}
 use Rattle.state.proofs.Laws.{total-append, fresh-by-place}
 use Rattle.admission.specs.Plan.{bytesOf}
+
+-- what was looked at is what the join says
+pub looks-is : (p : CommandState) (a n : ℕ) → lookedUpTo (a + n) (recordsIn p) ≡ join p a (a + n) .looked
+unfolding join
+looks-is p a n = refl
 
 -- what was met gives the parts of the join
 module _ (p : CommandState) (a n : ℕ) (m : Meeting) (met : m ≡ meeting (recordsIn p) a (a + n)) where

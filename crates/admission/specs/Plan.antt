@@ -28,11 +28,12 @@ abbrev pub bytesOf : CommandState → Join → ℕ
 bytesOf p j = j .meeting .below + j .meeting .held + behindOf p j + j .fresh
 
 -- there is room: the numbers are those of the join
-pub record Plan (p : CommandState) (j : Join) (m : Meeting) (fresh place behind : ℕ) : Type 0 where
+pub record Plan (p : CommandState) (j : Join) (m : Meeting) (fresh place behind looked : ℕ) : Type 0 where
   pub meets : m ≡ j .meeting
   pub new : fresh ≡ j .fresh
   pub stands : place ≡ j .place
   pub rest : behind ≡ behindOf p j
+  pub looks : looked ≡ j .looked
   pub bytes : bytesOf p j ≤ heldLimit
   pub few : j .command .count ≤ recordLimit
 
@@ -41,7 +42,7 @@ pub record TooMany (p : CommandState) (j : Join) : Type 0 where
   pub many : recordLimit < j .command .count
 
 abbrev pub PlansJoin : CommandState → Join → Finding → Type 0
-PlansJoin p j (Span m fresh place behind) = Plan p j m fresh place behind
+PlansJoin p j (Span m fresh place behind looked) = Plan p j m fresh place behind looked
 PlansJoin p j Bytes = heldLimit < bytesOf p j
 PlansJoin p j Records = TooMany p j
 

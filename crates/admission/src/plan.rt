@@ -7,20 +7,21 @@ ghost use Rattle.state.specs.Limits.{transferLimit, windowLimit, commandWords};
 ghost use Rattle.state.specs.State.{commandHolds};
 ghost use Rattle.state.specs.Words.{commandIn};
 ghost use Rattle.admission.specs.Plan.{Plans};
-use join::search::meeting;
+use join::search::search;
 use state::CacheState;
 use state::Meeting;
 use words::entries::held_from;
 use words::entries::used;
 
 pub enum Finding {
-    // how the span meets the records, how many of its bytes are fresh, where its first byte will stand among the packed bytes, and how
-    // many bytes are held behind it
+    // how the span meets the records, how many of its bytes are fresh, where its first byte will stand among the packed bytes, how many bytes
+    // are held behind it, and how many records the search looked at
     Span {
         m: Meeting,
         fresh: usize,
         place: usize,
         behind: usize,
+        looked: usize,
     },
     Bytes,
     Records,
@@ -30,7 +31,8 @@ pub fn planned(words: &[u16], address: usize, size: usize) -> Finding
     requires { ⌜ (length (now words) ≡ commandWords) × (commandHolds (commandIn (now words)) ≡ true) × (0 < size) × (size ≤ transferLimit) × (address + size ≤ windowLimit) ⌝ }
     ensures { λ r. ⌜ Plans (commandIn (now (words .entry))) address size r ⌝ }
 {
-    let m = meeting(words, address, address + size);
+    let searched = search(words, address, address + size);
+    let m = searched.met;
     let wide = numbers::minus(m.high, m.low);
     let fresh = numbers::minus(wide, m.held);
     let behind = held_from(words, m.last);
@@ -48,5 +50,6 @@ pub fn planned(words: &[u16], address: usize, size: usize) -> Finding
         fresh,
         place,
         behind,
+        looked: searched.looked,
     }
 }

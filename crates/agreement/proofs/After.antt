@@ -6,7 +6,7 @@ use mathlib.Core.Path.{_≡_, refl, ap, sym, fun-ext, _∙_}
 use mathlib.Core.List.{List, _∷_, map}
 use mathlib.Core.Bool.{Bool, true, false, cond}
 use lib.ListN.{length, getD}
-use borrow.Author.Tests.{leb-true, ltb-false, eq-eqb, not-false}
+use borrow.Author.Tests.{leb-true, le-leb, ltb-false, eq-eqb, not-false}
 use Rattle.state.specs.Limits.{commandLimit, recordLimit, storeSize}
 use Rattle.state.specs.Records.{span, held, place}
 use Rattle.state.specs.State.{recordsOf, isOpen}
@@ -30,7 +30,7 @@ use Rattle.history.specs.Answers.{isRunning, openSince}
 use Rattle.history.proofs.Tied.{Tied, tied-after}
 use Rattle.agreement.specs.Agreement.{asCommand, isSmall}
 use Rattle.agreement.proofs.Follows.{Follows, sees-known, cleared-follows, hold-follows, fetch-follows}
-use Rattle.agreement.proofs.Beside.{Beside, follows-open, fetch-same, answer-same}
+use Rattle.agreement.proofs.Beside.{Beside, follows-open, taken-same}
 
 -- what an accepted fetch and an accepted own write of a span tell
 record Taken {c : ℕ} {m : Map} {j : Machine} (B : Beside c m j) (a n : ℕ) : Type 0 where
@@ -88,10 +88,10 @@ module _ {c : ℕ} {m : Map} {j : Machine} (B : Beside c m j) (low : c < command
   fetch-dest-same : (a n : ℕ) (dest window : List ℕ) → length window ≤ mapLimit → fetchDest m window dest a n ≡ destAfter j (fetch c a n dest window)
   unfolding fetchDest fetchDestByRecords
   fetch-dest-same a n dest window small =
-      go (accepted (fetchSays m (length window) (length dest) a n)) refl (fetch-same B low window small a n dest)
+      go (accepted (fetchSays m (length window) (length dest) a n)) refl (taken-same B low (bytemap.fetch a n dest window) (le-leb (length window) mapLimit small))
     where
       go : (b : Bool) → accepted (fetchSays m (length window) (length dest) a n) ≡ b
-          → fetchSays m (length window) (length dest) a n ≡ says j (fetch c a n dest window)
+          → accepted (fetchSays m (length window) (length dest) a n) ≡ accepted (says j (fetch c a n dest window))
           → fetchDest m window dest a n ≡ destAfter j (fetch c a n dest window)
       go true e same = rw (← same, e, spans-same B a n dest window (fetch-taken B a n dest window e .opened))
       go false e same = rw (← same, e)
@@ -108,16 +108,16 @@ module _ {c : ℕ} {m : Map} {j : Machine} (B : Beside c m j) (low : c < command
   window-same bytemap.begin h = refl
   window-same (bytemap.fetch a n dest window) h = refl
   window-same bytemap.end h = refl
-  window-same (bytemap.ownWrite a bytes window) h = rw (answer-same B low (bytemap.ownWrite a bytes window) h)
+  window-same (bytemap.ownWrite a bytes window) h = rw (taken-same B low (bytemap.ownWrite a bytes window) h)
 
   -- the delivered bytes are told from answer and destination
   pub delivered-same : (p : bytemap.Call) → isSmall p ≡ true → bytemap.delivers m p ≡ delivers j (asCommand c p)
-  delivered-same bytemap.begin h = rw (answer-same B low bytemap.begin h)
+  delivered-same bytemap.begin h = rw (taken-same B low bytemap.begin h)
   delivered-same (bytemap.fetch a n dest window) h =
       let p = bytemap.fetch a n dest window in
-      rw (answer-same B low p h, dest-same p h)
-  delivered-same bytemap.end h = rw (answer-same B low bytemap.end h)
-  delivered-same (bytemap.ownWrite a bytes window) h = rw (answer-same B low (bytemap.ownWrite a bytes window) h)
+      rw (taken-same B low p h, dest-same p h)
+  delivered-same bytemap.end h = rw (taken-same B low bytemap.end h)
+  delivered-same (bytemap.ownWrite a bytes window) h = rw (taken-same B low (bytemap.ownWrite a bytes window) h)
 
 -- The map, and what the event of the call makes of the command's phase and memory
 
@@ -146,5 +146,5 @@ module _ {c : ℕ} {m : Map} {j : Machine} (B : Beside c m j) where
   beside-after low p h = record {
     past = event j (asCommand c p) ∷ B .past;
     tied = tied-after storeSize j (B .past) (asCommand c p) (B .tied);
-    follows = follows-after p (accepted (says j (asCommand c p))) (ap accepted (answer-same B low p h));
+    follows = follows-after p (accepted (says j (asCommand c p))) (taken-same B low p h);
   }

@@ -12,6 +12,7 @@ use Rattle.state.specs.Limits.{commandLimit, recordLimit, heldLimit, storeSize}
 use Rattle.state.specs.Records.{held, total}
 use Rattle.state.specs.Runs.{runs}
 use Rattle.state.specs.State.{State, commandOf, recordsIn, recordsOf, isOpen, holds, commandHolds, ascending, isZero}
+use Rattle.state.specs.Verdict.{withoutLooked}
 use Rattle.state.proofs.Commands.{kept, each-holds}
 use Rattle.state.proofs.Runs.{records-runs}
 use Rattle.bits.specs.Bits.{mapLimit}
@@ -107,6 +108,12 @@ module _ (c : ℕ) (low : c < commandLimit) where
       (beside-after B low p (and-left (isSmall p) (all isSmall ps) h))
       (and-right (isSmall p) (all isSmall ps) h)
 
+-- what is made of each answer along a list
+along-map : {A B : Type 0} (f : A → B) (g : Machine → Call → A) (j : Machine) (ps : List Call) → along (λ k p. f (g k p)) j ps ≡ map f (along g j ps)
+unfolding along
+along-map f g j [] = refl
+along-map f g j (p ∷ ps) = ap₂ _∷_ refl (along-map f g (after j p) ps)
+
 -- before any call
 beside-start : (store : List ℕ) (c : ℕ) → length store ≡ storeSize → Beside c fresh (start store)
 unfolding phase
@@ -117,7 +124,9 @@ agreement store c ps size low small =
     let B = beside-start store c size in
     let then = beside-ran c low fresh (start store) ps B small in
     record {
-      answers = along-same c low bytemap.says says (λ m j p B h. answer-same B low p h) fresh (start store) ps B small;
+      answers =
+          along-same c low bytemap.says (λ j p. withoutLooked (says j p)) (λ m j p B h. answer-same B low p h) fresh (start store) ps B small
+          ∙ along-map withoutLooked says (start store) (map (asCommand c) ps);
       delivered = along-same c low bytemap.delivers delivers (λ m j p B h. delivered-same B low p h) fresh (start store) ps B small;
       destinations = along-same c low bytemap.destAfter destAfter (λ m j p B h. dest-same B low p h) fresh (start store) ps B small;
       windows = along-same c low bytemap.windowAfter windowAfter (λ m j p B h. window-same B low p h) fresh (start store) ps B small;

@@ -1,9 +1,9 @@
 -- A byte map beside a record engine: the map follows the memory of the events that led to the engine's state. So each call of the command is
--- answered alike by the two.
+-- answered alike by the two, but for the number of records looked at.
 use Prim.Native.Nat.{ℕ, _+_, _-_, _≤_, _<_}
 use native.Mathlib.Omega.{arith}
 use mathlib.Core.Path.{_≡_, refl, ap, subst, sym, fun-ext, _∙_}
-use mathlib.Core.List.{List}
+use mathlib.Core.List.{List, [], _∷_, _++_}
 use mathlib.Core.Bool.{Bool, true, false, cond, not, _||_, and-false}
 use lib.Dec.{leb, ltb}
 use lib.ListN.{length}
@@ -12,7 +12,8 @@ use Rattle.octets.specs.Lists.{count}
 use Rattle.state.specs.Limits.{commandLimit, heldLimit, windowLimit, storeSize}
 use Rattle.state.specs.Records.{inSpan, span}
 use Rattle.state.specs.Runs.{runs}
-use Rattle.state.specs.Verdict.{verdict}
+use Rattle.state.specs.Verdict.{replied, accepted, withoutLooked, Check, verdict}
+use Rattle.state.proofs.Verdict.{verdict-without, accepted-without}
 use Rattle.bits.specs.Bits.{mapLimit}
 use Rattle.bytemap.specs.Map.{Map, isHeld, runsOf, holds}
 use Rattle.bytemap.specs.Begin.{beginSays}
@@ -20,10 +21,14 @@ use Rattle.bytemap.specs.Fetch.{heldThen, runsThen, freshCount, replayedCount, 
 use Rattle.bytemap.specs.End.{endSays}
 use Rattle.bytemap.specs.OwnWrite.{ownSays}
 use Rattle.bytemap.specs.Runs as bytemap
+use Rattle.cache.specs.Begin.{beginChecks, beginSays as beginByRecords}
+use Rattle.cache.specs.End.{endChecks, endSays as endByRecords}
+use Rattle.cache.specs.OwnWrite.{ownChecks, ownSays as ownByRecords}
 use Rattle.cache.specs.Runs.{begin, fetch, end, ownWrite, Machine, says}
 use Rattle.history.specs.Journal.{Event}
 use Rattle.history.specs.Firsts.{Value, none, memory, heldSince}
-use Rattle.history.specs.Answers.{openSince, firstCount, replayCount, runsWith, answerOwed, heldCount as countSince, runsOf as runsSince}
+use Rattle.history.specs.Answers.{openSince, firstCount, replayCount, runsWith, bytesFull, recordsFull, lowerChecks, answerOwed}
+use Rattle.history.specs.Answers.{heldCount as countSince, runsOf as runsSince}
 use Rattle.history.proofs.Stored.{memory-held}
 use Rattle.history.proofs.Tied.{Tied}
 use Rattle.history.proofs.Answers.{answer-here}
@@ -120,13 +125,20 @@ module _ {c : ℕ} {m : Map} {j : Machine} (B : Beside c m j) (low : c < command
     fits-map : (a n : ℕ) → ltb (length window) (a + n) ≡ false → a + n ≤ mapLimit
     fits-map a n h = omega (arith, ltb-false (length window) (a + n) h)
 
-    pub fetch-same : (a n : ℕ) (dest : List ℕ) → fetchSays m (length window) (length dest) a n ≡ says j (fetch c a n dest window)
+    pub fetch-same : (a n : ℕ) (dest : List ℕ) → fetchSays m (length window) (length dest) a n ≡ withoutLooked (says j (fetch c a n dest window))
     unfolding answerOwed fetchSays verdict
     fetch-same a n dest =
-        sym (answer-here (B .tied) (fetch c a n dest window) ∙ go (ltb (length window) (a + n)) refl (openSince (B .past) c) refl)
+        sym
+        (ap withoutLooked (answer-here (B .tied) (fetch c a n dest window)) ∙ verdict-without checks _
+        ∙ go (ltb (length window) (a + n)) refl (openSince (B .past) c) refl)
       where
+        checks : List Check
+        checks =
+            lowerChecks storeSize (B .past) c a n (length dest) (length window) ++ bytesFull (B .past) c a n ∷ recordsFull (B .past) c a n ∷ []
+
         go : (outside : Bool) → ltb (length window) (a + n) ≡ outside → (opened : Bool) → openSince (B .past) c ≡ opened
-            → answerOwed storeSize (B .past) (fetch c a n dest window) ≡ fetchSays m (length window) (length dest) a n
+            → verdict checks (replied (firstCount (B .past) c a n ∷ replayCount (B .past) c a n ∷ []))
+            ≡ fetchSays m (length window) (length dest) a n
         go true h o e = rw (no-command, no-window, no-map, h)
         go false h false e = rw (no-command, no-window, no-map, h, whole, B .follows .same, e)
         go false h true e =
@@ -159,8 +171,15 @@ module _ {c : ℕ} {m : Map} {j : Machine} (B : Beside c m j) (low : c < command
             let fits = fits-map a n h in
             rw (no-command, no-window, no-map, h, whole, B .follows .same, e, room-left B e a n fits, runs-with B e a n fits, first-count B e a n)
 
-  pub answer-same : (p : bytemap.Call) → isSmall p ≡ true → bytemap.says m p ≡ says j (asCommand c p)
-  answer-same bytemap.begin h = begin-same
+  -- the other calls reply two numbers at the most
+  pub answer-same : (p : bytemap.Call) → isSmall p ≡ true → bytemap.says m p ≡ withoutLooked (says j (asCommand c p))
+  unfolding beginByRecords endByRecords ownByRecords
+  answer-same bytemap.begin h = begin-same ∙ sym (verdict-without (beginChecks (j .state) (length (j .store)) c) [])
   answer-same (bytemap.fetch a n dest window) h = fetch-same window (leb-true (length window) mapLimit h) a n dest
-  answer-same bytemap.end h = end-same
-  answer-same (bytemap.ownWrite a bytes window) h = own-same window (leb-true (length window) mapLimit h) a bytes
+  answer-same bytemap.end h = end-same ∙ sym (verdict-without (endChecks (j .state) (length (j .store)) c) _)
+  answer-same (bytemap.ownWrite a bytes window) h =
+      own-same window (leb-true (length window) mapLimit h) a bytes
+      ∙ sym (verdict-without (ownChecks (j .state) (length (j .store)) (length window) c a (length bytes)) _)
+
+  pub taken-same : (p : bytemap.Call) → isSmall p ≡ true → accepted (bytemap.says m p) ≡ accepted (says j (asCommand c p))
+  taken-same p h = ap accepted (answer-same p h) ∙ accepted-without (says j (asCommand c p))

@@ -10,7 +10,7 @@ use Rattle.octets.specs.Lists.{all}
 use Rattle.state.specs.Limits.{commandLimit, storeSize}
 use Rattle.state.specs.Records.{held, span, addresses, total, place, countFresh, countHeld, keep, lowest, highest, joined}
 use Rattle.state.specs.State.{ascending, commandHolds, holds}
-use Rattle.state.specs.Verdict.{replied, verdict, accepted}
+use Rattle.state.specs.Verdict.{replied, withoutLooked, verdict, accepted}
 use Rattle.bytemap.specs.Map.{heldCount, runsOf, fresh, isOpen}
 use Rattle.bytemap.specs.Runs as bytemap
 use Rattle.cache.specs.Begin.{beginSays, beginState, beginStore}
@@ -21,11 +21,12 @@ use Rattle.cache.specs.Runs.{start, along, ran, says}
 use Rattle.agreement.specs.Agreement.{asCommand, isSmall, Agree}
 use Rattle.agreement.proofs.Agreement.{agreement}
 
--- The record engine serves every command alike, whatever its store held at the start: each is answered as the byte map, which knows neither.
+-- The record engine serves every command alike, whatever its store held at the start: but for the number of records looked at, each is answered as
+-- the byte map, which knows neither.
 commands-alike :
     (store other : List ℕ) (c d : ℕ) (ps : List bytemap.Call) → length store ≡ storeSize → length other ≡ storeSize
     → c < commandLimit → d < commandLimit → all isSmall ps ≡ true
-    → along says (start store) (map (asCommand c) ps) ≡ along says (start other) (map (asCommand d) ps)
+    → map withoutLooked (along says (start store) (map (asCommand c) ps)) ≡ map withoutLooked (along says (start other) (map (asCommand d) ps))
 commands-alike store other c d ps size size′ low low′ small =
     sym (agreement store c ps size low small .answers) ∙ agreement other d ps size′ low′ small .answers
 

@@ -1,4 +1,4 @@
--- The byte map and the record engine agree (requests F-2 and F-3 of 02, the agreed changes; docs/RULES.md has their rules).
+-- The byte map and the record engine agree (requests F-2, F-3 and F-6 of 02, the agreed changes; docs/RULES.md has their rules).
 use Prim.Native.Nat.{ℕ, _<_}
 use mathlib.Core.Path.{_≡_}
 use mathlib.Core.List.{List, map}
@@ -9,6 +9,7 @@ use Rattle.octets.specs.Lists.{all}
 use Rattle.state.specs.Limits.{commandLimit, storeSize}
 use Rattle.state.specs.Records.{total}
 use Rattle.state.specs.State.{recordsOf, isOpen}
+use Rattle.state.specs.Verdict.{withoutLooked}
 use Rattle.bits.specs.Bits.{mapLimit}
 use Rattle.bytemap.specs.Map.{heldCount, runsOf, fresh, isOpen as isMapOpen}
 use Rattle.bytemap.specs.Runs as bytemap
@@ -31,8 +32,9 @@ module _ (store : List ℕ) (c : ℕ) (ps : List bytemap.Call) where
   commands = map (asCommand c) ps
 
   pub record Agree : Type 0 where
-    -- at each call: the answer, reply or refusal; the delivered bytes; destination and window after it
-    pub answers : bytemap.along bytemap.says fresh ps ≡ along says (start store) commands
+    -- at each call: the answer, reply or refusal, without the number of records looked at, which the byte map does not have; the delivered bytes;
+    -- destination and window after it
+    pub answers : bytemap.along bytemap.says fresh ps ≡ map withoutLooked (along says (start store) commands)
     pub delivered : bytemap.along bytemap.delivers fresh ps ≡ along delivers (start store) commands
     pub destinations : bytemap.along bytemap.destAfter fresh ps ≡ along destAfter (start store) commands
     pub windows : bytemap.along bytemap.windowAfter fresh ps ≡ along windowAfter (start store) commands

@@ -12,8 +12,8 @@ use Rattle.state.specs.Limits.{recordLimit}
 use Rattle.state.specs.Records.{inSpan, span}
 use Rattle.state.specs.Refusals.{number}
 use Rattle.state.specs.Runs.{runsFrom}
-use Rattle.state.specs.declared.answer.FetchAnswer.{FetchAnswer}
-use Rattle.state.specs.Answers.{fetchReply}
+use Rattle.state.specs.declared.answer.MapFetchAnswer.{MapFetchAnswer}
+use Rattle.state.specs.Answers.{mapFetchReply}
 use Rattle.state.specs.Verdict.{Reply, replied, accepted, Check, _⇒_, verdict}
 use Rattle.state.specs.Checks.{lengthTooLong, outsideWindow, bufferTooShort}
 use Rattle.bits.specs.Bits.{mapLimit, wordsOf}
@@ -73,7 +73,7 @@ module _ (m : Map) (window dest : List ℕ) (a n : ℕ) where
   fetchDest = cond (accepted (fetchSays m (length window) (length dest) a n)) (overwrite dest 0 (seen m window a n)) dest
 
 -- the call: its answer, the map and the destination after it; the window is lent to be read, and stays
-pub record Fetches (m : Map) (window dest : List ℕ) (a n : ℕ) (r : FetchAnswer) (m′ : Map) (dest′ : List ℕ) : Type 0 where
-  pub answer : fetchReply r ≡ fetchSays m (length window) (length dest) a n
+pub record Fetches (m : Map) (window dest : List ℕ) (a n : ℕ) (r : MapFetchAnswer) (m′ : Map) (dest′ : List ℕ) : Type 0 where
+  pub answer : mapFetchReply r ≡ fetchSays m (length window) (length dest) a n
   pub map : m′ ≡ fetchMap m window dest a n
   pub delivered : dest′ ≡ fetchDest m window dest a n

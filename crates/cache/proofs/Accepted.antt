@@ -1,18 +1,18 @@
 -- What an accepted call tells: none of its checks applies, and its reply is given.
 use Prim.Native.Nat.{ℕ, _+_, _≤_, _<_}
 use native.Mathlib.Omega.{arith}
-use mathlib.Core.Path.{_≡_, refl}
+use mathlib.Core.Path.{_≡_}
 use mathlib.Core.List.{[], _∷_}
 use mathlib.Core.Bool.{true}
 use lib.ListN.{length}
 use borrow.Author.Tests.{ltb-false, leb-false, le-ltb, eqb-true, not-false}
 use Rattle.state.specs.Limits.{commandLimit, recordLimit, heldLimit, windowLimit, storeSize}
-use Rattle.state.specs.Records.{total, fresh, replayed, joined}
+use Rattle.state.specs.Records.{total, fresh, joined}
 use Rattle.state.specs.State.{State, recordsOf, isOpen, holds}
 use Rattle.state.specs.Verdict.{Reply, replied, accepted, verdict}
 use Rattle.state.proofs.Verdict.{none-applies, given}
 use Rattle.cache.specs.Begin.{beginSays}
-use Rattle.cache.specs.Fetch.{fetchChecks, fetchSays}
+use Rattle.cache.specs.Fetch.{fetchNumbers, fetchChecks, fetchSays}
 use Rattle.cache.specs.End.{endSays}
 use Rattle.cache.specs.HostWrite.{hostSays}
 use Rattle.cache.specs.OwnWrite.{ownChecks, ownSays}
@@ -78,7 +78,7 @@ module _ (s : State) (storeLen windowLen destLen c a n : ℕ) (e : accepted (fet
   unfolding fetchSays
   fetched = unbarred s storeLen windowLen destLen c a n _ e
 
-  pub fetched-reply : fetchSays s storeLen windowLen destLen c a n ≡ replied (fresh (recordsOf s c) a n ∷ replayed (recordsOf s c) a n ∷ [])
+  pub fetched-reply : fetchSays s storeLen windowLen destLen c a n ≡ replied (fetchNumbers (recordsOf s c) a n)
   unfolding fetchSays
   fetched-reply = given _ _ e
 

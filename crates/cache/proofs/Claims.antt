@@ -1,5 +1,5 @@
 -- Show gives every record of an open command and 25 behind the last; begin and end leave no record and a part of zeros; an own write's bytes
--- are held and stand in the window, and it is judged as a fetch.
+-- are held and stand in the window, and it is judged as a fetch; a fetch looks at the records that start at or below its end, and at one more.
 use Prim.Native.Nat.{ℕ, suc, _+_, _≤_, _<_}
 use native.Mathlib.Omega.{arith}
 use mathlib.Core.Path.{_≡_, refl, ap, ap₂, sym, _∙_}
@@ -11,11 +11,12 @@ use Rattle.octets.specs.Lists.{part}
 use Rattle.octets.proofs.Overwrite.{overwrite-part}
 use Rattle.state.specs.declared.Record.{Record}
 use Rattle.state.specs.Limits.{commandLimit, heldLimit}
-use Rattle.state.specs.Records.{span}
+use Rattle.state.specs.Records.{span, looked}
 use Rattle.state.specs.State.{State, empty, recordsOf, noRecord, isOpen, holds}
-use Rattle.state.specs.Verdict.{Reply, refused, accepted, Check, verdict}
+use Rattle.state.specs.Verdict.{Reply, refused, accepted, lookedIn, Check, verdict}
 use Rattle.state.proofs.Commands.{command-same, kept, eight}
 use Rattle.state.proofs.Laws.{total-joined}
+use Rattle.state.proofs.Looked.{looked-bound, looked-exactly}
 use Rattle.state.proofs.Verdict.{accepted-alike, refused-alike}
 use Rattle.store.specs.Store.{partStart, zeroed}
 use Rattle.store.proofs.Spans.{read-back, written-span}
@@ -24,8 +25,9 @@ use Rattle.cache.specs.End.{endState, endStore}
 use Rattle.cache.specs.Fetch.{fetchChecks, fetchSays, fetchState}
 use Rattle.cache.specs.OwnWrite.{ownSays, ownState, ownStore, ownWindow}
 use Rattle.cache.specs.Show.{pastLast, showSays}
-use Rattle.cache.specs.Claims.{recordReply, ShowsAll, CommandsEmptied, PartsZeroed, WrittenHeld, WindowWritten, OwnAsFetched}
-use Rattle.cache.proofs.Accepted.{Ready, begun, ended, own-judged, own-fetched}
+use Rattle.cache.specs.Runs.{fetch, says}
+use Rattle.cache.specs.Claims.{recordReply, ShowsAll, CommandsEmptied, PartsZeroed, WrittenHeld, WindowWritten, OwnAsFetched, FetchLooks}
+use Rattle.cache.proofs.Accepted.{Ready, begun, ended, fetched, fetched-reply, own-judged, own-fetched}
 use Rattle.cache.proofs.Tests.{never-true, never-false}
 
 -- what is made of a list's numbers and of its records is the same list, if it is the same at each number
@@ -126,3 +128,13 @@ own-as-fetched m c a bytes dest window size =
       taken = rw size (taken-alike (m .state) storeLen (length window) c a n);
       number = rw size (number-alike (m .state) storeLen (length window) c a n);
     }
+
+-- The number of records looked at is the third of the reply.
+pub fetch-looks : FetchLooks
+fetch-looks m c a n dest window e =
+    let s = m .state in
+    let rs = recordsOf s c in
+    let is : lookedIn (says m (fetch c a n dest window)) ≡ looked rs a n =
+    ap lookedIn (fetched-reply s (length (m .store)) (length window) (length dest) c a n e) in
+    let exactly = looked-exactly rs a n (kept s c (fetched s (length (m .store)) (length window) (length dest) c a n e .whole) .up) in
+    record { most = omega (arith, is, looked-bound rs a n); some = λ h. is ∙ exactly .some h; none = λ h. is ∙ exactly .none h }

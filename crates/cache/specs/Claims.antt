@@ -1,7 +1,8 @@
 -- The claims about single calls: what show gives of a command, what begin and end leave of its records, what they and own write leave of its
--- part of the store, that an own write's bytes stand in the window and that it is judged as a fetch, and that a refused call changes nothing
--- (01, the agreed scope, "The calls", and request F-3 of 02, the agreed changes; docs/RULES.md has their rules).
-use Prim.Native.Nat.{ℕ, _+_, _≤_, _<_}
+-- part of the store, that an own write's bytes stand in the window and that it is judged as a fetch, how many records a fetch looks at, and that a
+-- refused call changes nothing (01, the agreed scope, "The calls", and requests F-3 and F-6 of 02, the agreed changes; docs/RULES.md has their
+-- rules).
+use Prim.Native.Nat.{ℕ, suc, _+_, _≤_, _<_, min}
 use mathlib.Core.Path.{_≡_}
 use mathlib.Core.List.{List, [], _∷_, map}
 use mathlib.Core.Bool.{true, false}
@@ -9,9 +10,9 @@ use lib.ListN.{length, replicate}
 use Rattle.octets.specs.Lists.{part}
 use Rattle.state.specs.declared.Record.{Record}
 use Rattle.state.specs.Limits.{commandLimit, heldLimit}
-use Rattle.state.specs.Records.{span, place, joined}
+use Rattle.state.specs.Records.{span, place, joined, startingUpTo}
 use Rattle.state.specs.State.{State, empty, commandOf, recordsOf, isOpen, holds, hasShape}
-use Rattle.state.specs.Verdict.{Reply, refused, replied, accepted}
+use Rattle.state.specs.Verdict.{Reply, refused, replied, accepted, lookedIn}
 use Rattle.store.specs.Store.{partStart}
 use Rattle.cache.specs.Begin.{beginSays, beginState, beginStore}
 use Rattle.cache.specs.End.{endSays, endState, endStore}
@@ -73,6 +74,20 @@ abbrev pub OwnAsFetched : Type 0
 OwnAsFetched =
     (m : Machine) (c a : ℕ) (bytes dest window : List ℕ) → length dest ≡ length bytes
     → AsFetched m (ownWrite c a bytes window) (fetch c a (length bytes) dest window)
+
+-- F-6's number of a fetch, told without the search, of the records that the command has before it: no more than one beyond those that start at
+-- or below the end of the span; and, for a span of a byte or more, just these and the next one, if there is one
+pub record LooksAt (m : Machine) (c a n : ℕ) (dest window : List ℕ) : Type 0 where
+  pub most : lookedIn (says m (fetch c a n dest window)) ≤ suc (startingUpTo (a + n) (recordsOf (m .state) c))
+  pub some :
+      0 < n
+      → lookedIn (says m (fetch c a n dest window)) ≡ min (suc (startingUpTo (a + n) (recordsOf (m .state) c))) (length (recordsOf (m .state) c))
+  pub none : n ≡ 0 → lookedIn (says m (fetch c a n dest window)) ≡ 0
+
+-- So it is of every accepted fetch, whatever state it is given.
+abbrev pub FetchLooks : Type 0
+FetchLooks =
+    (m : Machine) (c a n : ℕ) (dest window : List ℕ) → accepted (says m (fetch c a n dest window)) ≡ true → LooksAt m c a n dest window
 
 -- what a call leaves as it was given
 pub record Unchanged (m : Machine) (p : Call) : Type 0 where

@@ -6,7 +6,7 @@ use mathlib.Core.List.{List, [], _∷_, map}
 use mathlib.Core.Bool.{true}
 use lib.ListN.{length, getD}
 use Rattle.octets.specs.Lists.{all}
-use Rattle.state.specs.Records.{total, fresh, replayed}
+use Rattle.state.specs.Records.{total, fresh, replayed, looked}
 use Rattle.state.specs.State.{State, recordsOf, noRecord}
 use Rattle.state.specs.Verdict.{replied, Check, numbers, applying, ascendFrom, lowestOr}
 use Rattle.cache.specs.Begin.{beginChecks, beginSays}
@@ -40,7 +40,8 @@ module _ (s : State) (storeLen windowLen destLen c a n i : ℕ) where
     pub ends : endSays s storeLen c ≡ lowestOr (applying (endChecks s storeLen c)) (replied (length (recordsOf s c) ∷ total (recordsOf s c) ∷ []))
     pub fetches :
         fetchSays s storeLen windowLen destLen c a n
-        ≡ lowestOr (applying (fetchChecks s storeLen windowLen destLen c a n)) (replied (fresh (recordsOf s c) a n ∷ replayed (recordsOf s c) a n ∷ []))
+        ≡ lowestOr (applying (fetchChecks s storeLen windowLen destLen c a n))
+        (replied (fresh (recordsOf s c) a n ∷ replayed (recordsOf s c) a n ∷ looked (recordsOf s c) a n ∷ []))
     pub hostWrites : hostSays windowLen a n ≡ lowestOr (applying (hostChecks windowLen a n)) (replied (n ∷ []))
     pub ownWrites :
         ownSays s storeLen windowLen c a n

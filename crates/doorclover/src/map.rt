@@ -9,7 +9,7 @@ use replies::Fetched;
 use replies::Written;
 use replies::begin_reply;
 use replies::end_reply;
-use replies::fetch_reply;
+use replies::map_fetch_reply;
 use replies::own_write_reply;
 
 // Makes the fresh map.
@@ -49,7 +49,7 @@ pub extern "C" fn doorclover_map_fetch(
 ) -> Fetched
     ensures { λ r. ⌜ MapFetches (mapOf (now (flag .entry)) (now (words .entry)) (now (values .entry))) (now (window .entry)) (now (destination .entry)) address size r (mapOf (now (flag .entry)) (now (words .exit)) (now (values .exit))) (now (destination .exit)) ⌝ }
 {
-    fetch_reply(mapfetch::fetch(flag, words, values, window, destination, address, size))
+    map_fetch_reply(mapfetch::fetch(flag, words, values, window, destination, address, size))
 }
 
 #[no_mangle]

@@ -28,7 +28,11 @@ fn fetched(answer: FetchAnswer) -> Answer
     ensures { λ r. ⌜ answerReply r ≡ fetchReply answer ⌝ }
 {
     match answer {
-        FetchAnswer::Done { fresh, replayed } => Answer::Counts(fresh, replayed),
+        FetchAnswer::Done {
+            fresh,
+            replayed,
+            looked,
+        } => Answer::Fetched(fresh, replayed, looked),
         FetchAnswer::Refused(why) => Answer::Refused(why),
     }
 }

@@ -1,7 +1,7 @@
 -- What a fetch leaves, case by case: it is refused, it is of no bytes, or its span is held and delivered.
 use Prim.Native.Nat.{ℕ, _+_, _-_, _≤_, _<_}
 use native.Mathlib.Omega.{arith}
-use mathlib.Core.Path.{_≡_, refl, ap, sym, subst, _∙_}
+use mathlib.Core.Path.{_≡_, refl, ap, ap₂, sym, subst, _∙_}
 use mathlib.Core.List.{List, [], _∷_, map}
 use mathlib.Core.Bool.{true, false, false≢true}
 use lib.ListN.{length}
@@ -11,7 +11,7 @@ use Rattle.state.specs.declared.Record.{Record}
 use Rattle.state.specs.declared.refusal.Refusal.{Refusal}
 use Rattle.state.specs.declared.refusal.Refusal.the-variants.{TooManyBytes, TooManyRecords}
 use Rattle.state.specs.Limits.{recordLimit, heldLimit, stateWords}
-use Rattle.state.specs.Records.{span, total, countFresh, fresh, replayed, joined}
+use Rattle.state.specs.Records.{span, total, countFresh, fresh, replayed, joined, looked}
 use Rattle.state.specs.State.{State, recordsOf, open-with, withCommand}
 use Rattle.state.specs.Words.{stateOf}
 use Rattle.state.specs.Refusals.{number}
@@ -77,11 +77,13 @@ module _ (words store window dest : List ℕ) (c a n : ℕ) where
     A = admits s (length store) (length window) (length dest) c a n e
 
     -- what is replied: the code gives what is left of the span, which is as many as are in a record
-    taken : total rs + fresh rs a n ≤ heldLimit → length (joined rs a n) ≤ recordLimit → says ≡ replied (fresh rs a n ∷ (n - fresh rs a n) ∷ [])
+    taken :
+        total rs + fresh rs a n ≤ heldLimit → length (joined rs a n) ≤ recordLimit
+        → says ≡ replied (fresh rs a n ∷ (n - fresh rs a n) ∷ looked rs a n ∷ [])
     unfolding fetchSays
     taken fits few =
         let rest : replayed rs a n ≡ n - fresh rs a n = omega (arith, counts-fill rs a n) in
-        none-barred s (length store) (length window) (length dest) c a n e _ fits few ∙ ap (λ (k : ℕ). replied (fresh rs a n ∷ k ∷ [])) rest
+        none-barred s (length store) (length window) (length dest) c a n e _ fits few ∙ ap (λ (k : ℕ). replied (fresh rs a n ∷ k ∷ looked rs a n ∷ [])) rest
 
     module _ (whole : length words ≡ stateWords) (some : 0 < n) where
       -- what is asked to hold the span, with the window for the source
@@ -113,21 +115,21 @@ module _ (words store window dest : List ℕ) (c a n : ℕ) where
             (refusing TooManyRecords (records-barred s (length store) (length window) (length dest) c a n e _ (full .bytes) (full .many)))
 
         -- the span is held and delivered
-        module _ (new at : ℕ) (H : Held words store c a n 0 window new at words′ store′) where
+        module _ (new at look : ℕ) (H : Held words store c a n 0 window new at look words′ store′) where
           pub placed : at + n ≤ heldLimit
-          placed = span-placed words store c a n 0 window may-hold new at words′ store′ H
+          placed = span-placed words store c a n 0 window may-hold new at look words′ store′ H
 
           from-window : sees rs (location s c) store (from 0 window) ≡ seen
           from-window = ap (sees rs (location s c) store) (from-zero window)
 
           pub span-fetched :
               (dest′ : List ℕ) → dest′ ≡ overwrite dest 0 (part store′ (partStart c + at) n)
-              → Fetches words store window dest c a n (Done new (n - new)) words′ store′ dest′
+              → Fetches words store window dest c a n (Done new (n - new) look) words′ store′ dest′
           span-fetched dest′ delivered =
-              accepting (Done new (n - new)) words′ store′ dest′ (fresh rs a n ∷ (n - fresh rs a n) ∷ [])
-              (ap (λ (k : ℕ). replied (k ∷ (n - k) ∷ [])) (H .counted))
+              accepting (Done new (n - new) look) words′ store′ dest′ (fresh rs a n ∷ (n - fresh rs a n) ∷ looked rs a n ∷ [])
+              (ap₂ (λ (k l : ℕ). replied (k ∷ (n - k) ∷ l ∷ [])) (H .counted) (H .looks))
               (taken (H .bytes) (H .records)) (H .state) (H .stored ∙ ap (packed store c (joined rs a n)) from-window)
-              (delivered ∙ ap (overwrite dest 0) (span-reads words store c a n 0 window may-hold new at words′ store′ H)
+              (delivered ∙ ap (overwrite dest 0) (span-reads words store c a n 0 window may-hold new at look words′ store′ H)
               ∙ ap (λ (f : ℕ → ℕ). overwrite dest 0 (map f (span a n))) from-window)
 
           pub at-most : new ≤ n
@@ -137,11 +139,11 @@ module _ (words store window dest : List ℕ) (c a n : ℕ) where
 none-fetched :
     (words store window dest : List ℕ) (c a : ℕ)
     → accepted (verdict (admitChecks (stateOf words) (length store) (length window) (length dest) c a 0) (replied [])) ≡ true
-    → Fetches words store window dest c a 0 (Done 0 0) words store dest
-unfolding span countFresh
+    → Fetches words store window dest c a 0 (Done 0 0 0) words store dest
+unfolding span countFresh looked
 none-fetched words store window dest c a e =
     let A = admits (stateOf words) (length store) (length window) (length dest) c a 0 e in
-    accepting words store window dest c a 0 (Done 0 0) words store dest (0 ∷ 0 ∷ []) refl
+    accepting words store window dest c a 0 (Done 0 0 0) words store dest (0 ∷ 0 ∷ 0 ∷ []) refl
     (taken words store window dest c a 0 e (nothing-new words store (length window) (length dest) c a A)
     (nothing-added words store (length window) (length dest) c a A))
     (nothing-joined words store (length window) (length dest) c a A)
@@ -150,8 +152,8 @@ none-fetched words store window dest c a e =
 pub nothing :
     (words store window dest : List ℕ) (c a n : ℕ) → n ≡ 0
     → accepted (verdict (admitChecks (stateOf words) (length store) (length window) (length dest) c a n) (replied [])) ≡ true
-    → Fetches words store window dest c a n (Done 0 0) words store dest
+    → Fetches words store window dest c a n (Done 0 0 0) words store dest
 nothing words store window dest c a n none e =
-    subst (λ (k : ℕ). Fetches words store window dest c a k (Done 0 0) words store dest) (sym none)
+    subst (λ (k : ℕ). Fetches words store window dest c a k (Done 0 0 0) words store dest) (sym none)
     (none-fetched words store window dest c a
     (subst (λ (k : ℕ). accepted (verdict (admitChecks (stateOf words) (length store) (length window) (length dest) c a k) (replied [])) ≡ true) none e))

@@ -36,10 +36,18 @@ fn fetch_span(
     match holding {
         Holding::Bytes => FetchAnswer::Refused(Refusal::TooManyBytes),
         Holding::Records => FetchAnswer::Refused(Refusal::TooManyRecords),
-        Holding::Span { fresh, place } => {
+        Holding::Span {
+            fresh,
+            place,
+            looked,
+        } => {
             part::deliver(store, command, place, size, destination);
             let replayed = size - fresh;
-            FetchAnswer::Done { fresh, replayed }
+            FetchAnswer::Done {
+                fresh,
+                replayed,
+                looked,
+            }
         }
     }
 }
@@ -73,6 +81,7 @@ fn fetch_words(
         return FetchAnswer::Done {
             fresh: 0,
             replayed: 0,
+            looked: 0,
         };
     }
     fetch_span(state, store, window, destination, command, address, size)

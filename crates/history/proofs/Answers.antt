@@ -10,7 +10,7 @@ use Rattle.octets.specs.Lists.{count}
 use borrow.Author.Tests.{ltb-false, not-false}
 use Rattle.state.specs.declared.Record.{Record}
 use Rattle.state.specs.Limits.{windowLimit}
-use Rattle.state.specs.Records.{past as pastRecord, inSpan, held, span, total, place, countFresh, fresh, countHeld, replayed, joined}
+use Rattle.state.specs.Records.{past as pastRecord, inSpan, held, span, total, place, countFresh, fresh, countHeld, replayed, joined, looked}
 use Rattle.state.specs.Runs.{runs}
 use Rattle.state.specs.State.{State, recordsOf, isOpen, ascending, holds, noRecord}
 use Rattle.state.specs.Verdict.{Reply, replied, Check, _⇒_, verdict}
@@ -97,8 +97,9 @@ module _ {storeLen : ℕ} {m : Machine} {past : List Event} (T : Tied storeLen m
   no-such-told i = ap (λ (ts : List Record). noSuchRecord ts i) runs-told
 
   -- and the replies
-  fetch-told : (a n : ℕ) → replied (fresh rs a n ∷ replayed rs a n ∷ []) ≡ replied (firstCount past c a n ∷ replayCount past c a n ∷ [])
-  fetch-told a n = rw (fresh-told a n, replayed-told a n)
+  fetch-told : (a n : ℕ) → replied (fresh rs a n ∷ replayed rs a n ∷ looked rs a n ∷ [])
+      ≡ replied (firstCount past c a n ∷ replayCount past c a n ∷ looked (runsOf past c) a n ∷ [])
+  fetch-told a n = rw (fresh-told a n, replayed-told a n) (ap (λ (ts : List Record). replied (firstCount past c a n ∷ replayCount past c a n ∷ looked ts a n ∷ [])) runs-told)
 
   end-told : replied (length rs ∷ total rs ∷ []) ≡ replied (length (runsOf past c) ∷ heldCount past c ∷ [])
   end-told = ap₂ (λ k b. replied (k ∷ b ∷ [])) (ap length runs-told) total-told

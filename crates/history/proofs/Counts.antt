@@ -12,10 +12,12 @@ use Rattle.octets.specs.Lists.{count}
 use Rattle.octets.proofs.Lists.{getD-same}
 use Rattle.state.specs.declared.Record.{Record}
 use Rattle.state.specs.Limits.{commandLimit}
-use Rattle.state.specs.Records.{held, place, span, total, countFresh, fresh, countHeld}
-use Rattle.state.specs.State.{CommandState, commandOf, recordsIn, withCommand, open-with, closed}
+use Rattle.state.specs.Records.{held, place, span, total, countFresh, fresh, countHeld, looked}
+use Rattle.state.specs.Runs.{runs}
+use Rattle.state.specs.State.{CommandState, commandOf, recordsIn, withCommand, open-with, closed, ascending}
 use Rattle.state.specs.Verdict.{accepted}
 use Rattle.state.proofs.Laws.{total-joined}
+use Rattle.state.proofs.Runs.{records-runs}
 use Rattle.state.proofs.Commands.{command-same, command-other, records-open-with, kept, eight}
 use Rattle.store.specs.Store.{location}
 use Rattle.cache.proofs.Accepted.{ended-open, ended-reply, fetched-reply, own-reply}
@@ -62,6 +64,10 @@ module _ (rs : List Record) (location : ℕ → ℕ) (store : List ℕ) (known :
   count-unknown : (xs : List ℕ) → countFresh rs xs ≡ count (λ x. not (isKnown (known x))) xs
   count-unknown xs = count-fresh rs xs ∙ ap (λ (f : ℕ → Bool). count (λ x. not (f x)) xs) held-is
 
+  -- records that ascend are the runs of what is known, so that as many are looked at
+  looked-known : ascending 0 rs ≡ true → (a n : ℕ) → looked rs a n ≡ looked (runs (λ x. isKnown (known x))) a n
+  looked-known up a n = ap (λ (ts : List Record). looked ts a n) (records-runs rs up ∙ ap runs held-is)
+
 -- the first fetches among addresses are as many as are not known
 count-firsts : (known : ℕ → Value) (window xs : List ℕ) → count (λ x. not (isKnown (known x))) xs ≡ length (firstsAmong known window xs)
 unfolding count firstsAmong
@@ -85,6 +91,7 @@ counts-here m mem (fetch c a n dest window) true e S =
       fetched-reply (m .state) (length (m .store)) (length window) (length dest) c a n e,
       count-unknown (old m c) (location (m .state) c) (m .store) (mem c) same (span a n) ∙ count-firsts (mem c) window (span a n),
       count-known (old m c) (location (m .state) c) (m .store) (mem c) same (span a n),
+      looked-known (old m c) (location (m .state) c) (m .store) (mem c) same (kept (m .state) c (S .state .whole) .up) a n,
     )
 counts-here m mem (end c) true e S = refl
 counts-here m mem (hostWrite a bytes window) true e S = refl

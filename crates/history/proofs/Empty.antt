@@ -9,7 +9,7 @@ use lib.ListN.{length}
 use borrow.Author.Tests.{leb-true, ltb-true}
 use Rattle.octets.specs.Lists.{overwrite}
 use Rattle.octets.proofs.Overwrite.{overwrite-none}
-use Rattle.state.specs.Records.{inSpan, span, countFresh, countHeld, joined}
+use Rattle.state.specs.Records.{inSpan, span, countFresh, countHeld, joined, looked}
 use Rattle.state.specs.State.{hasShape}
 use Rattle.state.specs.Verdict.{accepted}
 use Rattle.state.proofs.Commands.{kept, command-kept, open-with-own}
@@ -43,7 +43,7 @@ unfolding fetchDest span
 dest-same m c a dest window e = rw e (overwrite-none dest 0)
 
 pub empty-fetch : EmptyFetch
-unfolding span countFresh countHeld
+unfolding span countFresh countHeld looked
 empty-fetch words store c a dest window = go (accepted (says m (fetch c a 0 dest window))) refl
   where
     m : Machine

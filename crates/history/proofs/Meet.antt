@@ -11,13 +11,14 @@ use borrow.Author.Tests.{ltb-true, lt-ltb}
 use Rattle.octets.specs.Lists.{all}
 use Rattle.state.specs.declared.refusal.Refusal.the-variants.{TooManyBytes}
 use Rattle.state.specs.Limits.{heldLimit}
+use Rattle.state.specs.Records.{looked}
 use Rattle.state.specs.Refusals.{number}
 use Rattle.state.specs.Verdict.{Reply, refused, replied, Check, verdict, applying}
 use Rattle.state.proofs.Verdict.{never-given}
 use Rattle.state.proofs.Commands.{kept}
 use Rattle.cache.specs.Runs.{fetch, ownWrite, Machine, start, ran, says}
 use Rattle.history.specs.Journal.{Event}
-use Rattle.history.specs.Answers.{heldCount, replayCount, firstCount, bytesFull, recordsFull, lowerChecks, lowerWriteChecks, answerOwed}
+use Rattle.history.specs.Answers.{heldCount, replayCount, firstCount, runsOf, bytesFull, recordsFull, lowerChecks, lowerWriteChecks, answerOwed}
 use Rattle.history.specs.Answers.{eventsOf, spare, CountsMeet}
 use Rattle.history.proofs.Tied.{Tied, tied-start, tied-ran}
 use Rattle.history.proofs.Answers.{total-told, not-applying, answer-here}
@@ -56,7 +57,7 @@ module _ (past : List Event) (c a n : ℕ) (numbers : List ℕ) (small : heldCou
 module _ (storeLen : ℕ) (m : Machine) (past : List Event) (T : Tied storeLen m past) (c : ℕ) (small : heldCount past c ≤ heldLimit) where
   fetch-judged :
       (a n : ℕ) (dest window : List ℕ) → applying (lowerChecks storeLen past c a n (length dest) (length window)) ≡ []
-      → says m (fetch c a n dest window) ≡ judged past c a n (firstCount past c a n ∷ replayCount past c a n ∷ []) small
+      → says m (fetch c a n dest window) ≡ judged past c a n (firstCount past c a n ∷ replayCount past c a n ∷ looked (runsOf past c) a n ∷ []) small
   unfolding answerOwed
   fetch-judged a n dest window none =
       answer-here T (fetch c a n dest window)

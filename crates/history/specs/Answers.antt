@@ -13,7 +13,7 @@ use Rattle.state.specs.declared.Record.{Record}
 use Rattle.state.specs.declared.refusal.Refusal.the-variants.{CommandNotOpen, CommandAlreadyOpen, TooManyBytes, TooManyRecords, NoSuchRecord}
 use Rattle.state.specs.Limits.{recordLimit, heldLimit, windowLimit}
 use Rattle.state.specs.Refusals.{number}
-use Rattle.state.specs.Records.{inSpan, span, total}
+use Rattle.state.specs.Records.{inSpan, span, total, looked}
 use Rattle.state.specs.Runs.{runs}
 use Rattle.state.specs.State.{noRecord, recordsOf, isOpen}
 use Rattle.state.specs.Verdict.{Reply, refused, replied, Check, _⇒_, verdict, applying}
@@ -89,10 +89,10 @@ module _ (storeLen : ℕ) (past : List Event) where
   unfoldable pub answerOwed : Call → Reply
   -- 6, 8, 22; begin replies nothing
   answerOwed (begin c) = verdict (commandTooHigh c ∷ storeWrongSize storeLen ∷ alreadyOpen past c ∷ []) (replied [])
-  -- 4, 6 to 10, 21, 23, 24; fresh and replayed
+  -- 4, 6 to 10, 21, 23, 24; fresh, replayed, and how many of the runs are looked at, which are the command's records before the fetch
   answerOwed (fetch c a n dest window) =
       verdict (lowerChecks c a n (length dest) (length window) ++ bytesFull past c a n ∷ recordsFull past c a n ∷ [])
-      (replied (firstCount past c a n ∷ replayCount past c a n ∷ []))
+      (replied (firstCount past c a n ∷ replayCount past c a n ∷ looked (runsOf past c) a n ∷ []))
   -- 6, 8, 21; the number of records and of distinct bytes
   answerOwed (end c) =
       verdict (commandTooHigh c ∷ storeWrongSize storeLen ∷ notOpen past c ∷ []) (replied (length (runsOf past c) ∷ heldCount past c ∷ []))

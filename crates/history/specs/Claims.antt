@@ -28,8 +28,9 @@ use Rattle.history.specs.Stores.{storeOwed}
 abbrev pub DeliveryRule : Type 0
 DeliveryRule = (store : List ℕ) (ps : List Call) → along delivers (start store) ps ≡ told owed [] (journal store ps)
 
--- Fresh is the number of first fetches at each accepted fetch, and replayed that of the addresses fetched or written before. An accepted own
--- write replies its number of bytes, and that of its addresses neither fetched nor written before.
+-- Fresh is the number of first fetches at each accepted fetch, and replayed that of the addresses fetched or written before; the third number is
+-- how many are looked at of the runs of all addresses fetched or written before. An accepted own write replies its number of bytes, and that of its
+-- addresses neither fetched nor written before.
 abbrev pub CountsTie : Type 0
 CountsTie = (store : List ℕ) (ps : List Call) → told countsReplied [] (journal store ps) ≡ told countsOwed [] (journal store ps)
 
@@ -204,10 +205,10 @@ pub record Alone (m : Machine) (p : Call) (d : ℕ) : Type 0 where
 abbrev pub Isolation : Type 0
 Isolation = (m : Machine) (p : Call) (d : ℕ) → mayChange p d ≡ false → Alone m p d
 
--- 01's rule on length 0
+-- 01's rule on length 0, with F-6: it changes nothing and replies 0, 0 and 0
 pub record Empty (m : Machine) (c a : ℕ) (dest window : List ℕ) : Type 0 where
   pub unchanged : Unchanged m (fetch c a 0 dest window)
-  pub reply : accepted (says m (fetch c a 0 dest window)) ≡ true → says m (fetch c a 0 dest window) ≡ replied (0 ∷ 0 ∷ [])
+  pub reply : accepted (says m (fetch c a 0 dest window)) ≡ true → says m (fetch c a 0 dest window) ≡ replied (0 ∷ 0 ∷ 0 ∷ [])
 
 abbrev pub EmptyFetch : Type 0
 EmptyFetch = (words store : List ℕ) (c a : ℕ) (dest window : List ℕ) → Empty (given words store) c a dest window

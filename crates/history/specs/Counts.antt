@@ -5,12 +5,13 @@ use mathlib.Core.Bool.{cond, not}
 use lib.Dec.{eqb}
 use lib.ListN.{length, getD, drop}
 use Rattle.octets.specs.Lists.{count}
-use Rattle.state.specs.Records.{span}
+use Rattle.state.specs.Records.{span, looked}
+use Rattle.state.specs.Runs.{runs}
 use Rattle.state.specs.Verdict.{Reply, numbersOf}
 use Rattle.history.specs.Journal.{Event, Deed, began, fetched, wrote, ended, other, deed}
 use Rattle.history.specs.Firsts.{Memory, memory, isKnown, firstsAmong}
 
--- the two counts that an accepted fetch replied, and an accepted own write
+-- the numbers that an accepted fetch replied, three, and an accepted own write, two
 abbrev pub countsIn : Reply → Deed → List ℕ
 countsIn r (began c) = []
 countsIn r (fetched c a n window) = numbersOf r
@@ -22,11 +23,12 @@ abbrev pub countsReplied : List Event → Event → List ℕ
 countsReplied past e = countsIn (e .answer) (deed e)
 
 -- Of a fetch, fresh is the number of first fetches at this event, and replayed that of the span's addresses which the command has fetched or
--- written before. Of an own write, the first is the number of bytes, and the second that of the addresses which it has neither fetched nor written
--- before.
+-- written before; the third number is how many are looked at of the longest runs of what it has fetched or written before (F-6). Of an own write, the
+-- first is the number of bytes, and the second that of the addresses which it has neither fetched nor written before.
 unfoldable pub countsBy : Memory → Deed → List ℕ
 countsBy mem (began c) = []
-countsBy mem (fetched c a n window) = length (firstsAmong (mem c) window (span a n)) ∷ count (λ x. isKnown (mem c x)) (span a n) ∷ []
+countsBy mem (fetched c a n window) =
+    length (firstsAmong (mem c) window (span a n)) ∷ count (λ x. isKnown (mem c x)) (span a n) ∷ looked (runs (λ x. isKnown (mem c x))) a n ∷ []
 countsBy mem (wrote c a bytes) = length bytes ∷ count (λ x. not (isKnown (mem c x))) (span a (length bytes)) ∷ []
 countsBy mem (ended c) = []
 countsBy mem other = []

@@ -18,7 +18,7 @@ use Rattle.store.proofs.Spans.{span-below, read-back, written-over}
 use Rattle.holding.specs.Holding.{MayHold, Held}
 
 module _ (words store : List ℕ) (c a n base : ℕ) (source : List ℕ) (M : MayHold words (length store) c a n base (length source))
-    (new at : ℕ) (words′ store′ : List ℕ) (H : Held words store c a n base source new at words′ store′) where
+    (new at look : ℕ) (words′ store′ : List ℕ) (H : Held words store c a n base source new at look words′ store′) where
   abbrev rs : List Record
   rs = recordsOf (stateOf words) c
 

@@ -43,7 +43,7 @@ abbrev pub heldOf : CommandState → (c base : ℕ) (source store : List ℕ) �
 heldOf q c base source store m = packed store c (replaced (recordsIn q) m) (sees (recordsIn q) (λ k. partStart c + k) store (from base source))
 
 -- where there is room: what `hold` and `splice` need, and what they have made of words and store
-pub record SpanRoom (words store : List ℕ) (c a n base : ℕ) (source : List ℕ) (m : Meeting) (new at rest : ℕ) : Type 0 where
+pub record SpanRoom (words store : List ℕ) (c a n base : ℕ) (source : List ℕ) (m : Meeting) (new at rest look : ℕ) : Type 0 where
   pub fits : Fits (lentCommand words c) m new heldLimit base (length source)
   pub behind : rest ≡ total (drop (m .last) (recordsIn (lentCommand words c)))
   pub opened : lentCommand words c .opened ≡ true
@@ -52,7 +52,7 @@ pub record SpanRoom (words store : List ℕ) (c a n base : ℕ) (source : List �
   pub few : m .first + 1 + (length (recordsIn (lentCommand words c)) - m .last) ≤ recordLimit
   pub held :
       (ws store′ : List ℕ) → length ws ≡ commandWords → commandIn ws ≡ spliced (lentCommand words c) m
-      → store′ ≡ heldOf (lentCommand words c) c base source store m → Held words store c a n base source new at (returned words c ws) store′
+      → store′ ≡ heldOf (lentCommand words c) c base source store m → Held words store c a n base source new at look (returned words c ws) store′
 
 module _ (words store : List ℕ) (c a n base : ℕ) (source : List ℕ) (M : MayHold words (length store) c a n base (length source)) where
   abbrev s : State
@@ -111,9 +111,9 @@ module _ (words store : List ℕ) (c a n base : ℕ) (source : List ℕ) (M : Ma
       record { bytes = omega (arith, h .bytes, bytes-are); many = omega (arith, h .many, judged .count); sameWords = refl; sameStore = refl }
 
   -- there is room
-  module _ (m : Meeting) (new at rest : ℕ) (found : Plans (lentCommand words c) a n (Span m new at rest)) where
-    P : Plan p j m new at rest
-    P = plans (Span m new at rest) found
+  module _ (m : Meeting) (new at rest look : ℕ) (found : Plans (lentCommand words c) a n (Span m new at rest look)) where
+    P : Plan p j m new at rest look
+    P = plans (Span m new at rest look) found
 
     R : Room p a n
     R = record {
@@ -144,13 +144,14 @@ module _ (words store : List ℕ) (c a n base : ℕ) (source : List ℕ) (M : Ma
     -- the union is in the command's words, and its bytes are in the store
     module _ (ws store′ : List ℕ) (size : length ws ≡ commandWords) (command : commandIn ws ≡ spliced (lentCommand words c) m)
         (bytes : store′ ≡ heldOf (lentCommand words c) c base source store m) where
-      held : Held words store c a n base source new at (returned words c ws) store′
+      held : Held words store c a n base source new at look (returned words c ws) store′
       unfolding join
       held = record {
         bytes = R .bytes;
         records = R .few;
         counted = P .new ∙ judged .fresh;
         stands = P .stands ∙ joined-is .place;
+        looks = P .looks ∙ judged .looked;
         state =
             returned-state words c (M .sized) (M .command) ws size
             ∙ ap (withCommand s c) (command ∙ ap (λ (q : CommandState). spliced q m) own ∙ ap (spliced p) (P .meets) ∙ joined-is .records);
@@ -159,7 +160,7 @@ module _ (words store : List ℕ) (c a n base : ℕ) (source : List ℕ) (M : Ma
             ∙ ap (λ (l : List Record). packed store c l (sees rs (location s c) store (from base source))) (sym (joined-is .replaces));
       }
 
-    pub room : SpanRoom words store c a n base source m new at rest
+    pub room : SpanRoom words store c a n base source m new at rest look
     room = record {
       fits = subst (λ (q : CommandState). Fits q m new heldLimit base (length source)) (sym own) span-fits;
       behind =

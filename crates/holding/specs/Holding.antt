@@ -5,7 +5,7 @@ use mathlib.Core.List.{List}
 use mathlib.Core.Bool.{true}
 use lib.ListN.{length}
 use Rattle.state.specs.Limits.{commandLimit, recordLimit, heldLimit, transferLimit, windowLimit, storeSize, stateWords}
-use Rattle.state.specs.Records.{place, total, fresh, joined}
+use Rattle.state.specs.Records.{place, total, fresh, joined, looked}
 use Rattle.state.specs.State.{recordsOf, isOpen, open-with, withCommand, holds}
 use Rattle.state.specs.Words.{stateOf}
 use Rattle.store.specs.Store.{location, packed, from, sees}
@@ -25,12 +25,14 @@ pub record MayHold (words : List ℕ) (storeLen c a n base sourceLen : ℕ) : Ty
   pub starts : base ≤ a
   pub ends : a + n ≤ base + sourceLen
 
--- there is room: how many addresses were not held, where the first one stands, and the bytes packed as the command sees them with that source
-pub record Held (words store : List ℕ) (c a n base : ℕ) (source : List ℕ) (new at : ℕ) (words′ store′ : List ℕ) : Type 0 where
+-- there is room: how many addresses were not held, where the first one stands, how many records were looked at, and the bytes packed as the
+-- command sees them with that source
+pub record Held (words store : List ℕ) (c a n base : ℕ) (source : List ℕ) (new at look : ℕ) (words′ store′ : List ℕ) : Type 0 where
   pub bytes : total (recordsOf (stateOf words) c) + fresh (recordsOf (stateOf words) c) a n ≤ heldLimit
   pub records : length (joined (recordsOf (stateOf words) c) a n) ≤ recordLimit
   pub counted : new ≡ fresh (recordsOf (stateOf words) c) a n
   pub stands : at ≡ place (joined (recordsOf (stateOf words) c) a n) a
+  pub looks : look ≡ looked (recordsOf (stateOf words) c) a n
   pub state : stateOf words′ ≡ withCommand (stateOf words) c (open-with (joined (recordsOf (stateOf words) c) a n))
   pub stored :
       store′
@@ -50,6 +52,6 @@ pub record RecordsFull (words store : List ℕ) (c a n : ℕ) (words′ store′
   pub sameStore : store′ ≡ store
 
 abbrev pub Holds : (words store : List ℕ) (c a n base : ℕ) (source : List ℕ) → Holding → (words′ store′ : List ℕ) → Type 0
-Holds words store c a n base source (Span new at) words′ store′ = Held words store c a n base source new at words′ store′
+Holds words store c a n base source (Span new at look) words′ store′ = Held words store c a n base source new at look words′ store′
 Holds words store c a n base source Bytes words′ store′ = BytesFull words store c a n words′ store′
 Holds words store c a n base source Records words′ store′ = RecordsFull words store c a n words′ store′

@@ -10,8 +10,13 @@ use state::CacheState;
 use store::part;
 
 pub enum Holding {
-    // how many addresses of the span were not held before, and where its first byte stands among the packed bytes
-    Span { fresh: usize, place: usize },
+    // how many addresses of the span were not held before, where its first byte stands among the packed bytes, and how many records were looked
+    // at
+    Span {
+        fresh: usize,
+        place: usize,
+        looked: usize,
+    },
     Bytes,
     Records,
 }
@@ -40,6 +45,7 @@ pub fn hold_span(
             fresh,
             place,
             behind,
+            looked,
         } => {
             part::hold(
                 store,
@@ -52,7 +58,11 @@ pub fn hold_span(
                 behind,
             );
             splice(&mut state[low..high], m);
-            Holding::Span { fresh, place }
+            Holding::Span {
+                fresh,
+                place,
+                looked,
+            }
         }
     }
 }

@@ -1,16 +1,22 @@
-// The records that meet a span, found by one search from the lowest start upward.
+// The records that meet a span, found by one search from the lowest start upward, which counts the records that it looks at.
 ghost use mathlib.Core.Path.{_≡_};
 ghost use lib.ListN.{length};
-ghost use Rattle.state.specs.Limits.{recordLimit, commandWords};
+ghost use Rattle.state.specs.Limits.{commandWords};
 ghost use Rattle.state.specs.State.{recordsIn};
-ghost use Rattle.state.specs.Join.{meeting};
 ghost use Rattle.join.specs.Bounds.{Counted, Passed};
+ghost use Rattle.join.specs.Search.{Searches};
 ghost use Rattle.state.specs.Words.{commandIn};
 use state::Meeting;
 use state::Record;
 use words::entries::entry;
 use words::entries::used;
 use words::entries::wide;
+
+// How the span lies among the records, and how many of them were looked at.
+pub struct Searched {
+    pub met: Meeting,
+    pub looked: usize,
+}
 
 // The search goes on past a record that starts at or before the span's end: it lies before the span, or meets it.
 fn pass(m: Meeting, r: Record, address: usize) -> Meeting
@@ -40,10 +46,10 @@ fn pass(m: Meeting, r: Record, address: usize) -> Meeting
     }
 }
 
-// How the span from `address` up to `end` lies among the records.
-pub fn meeting(words: &[u16], address: usize, end: usize) -> Meeting
+// The search for the span from `address` up to `end`. It ends with the first record that starts above the span's end.
+pub fn search(words: &[u16], address: usize, end: usize) -> Searched
     requires { ⌜ length (now words) ≡ commandWords ⌝ }
-    ensures { λ r. ⌜ (r ≡ meeting (recordsIn (commandIn (now (words .entry)))) address end) × Counted r recordLimit ⌝ }
+    ensures { λ r. ⌜ Searches (recordsIn (commandIn (now (words .entry)))) address end r ⌝ }
 {
     let n = used(words);
     let mut m = Meeting {
@@ -58,10 +64,13 @@ pub fn meeting(words: &[u16], address: usize, end: usize) -> Meeting
     while i < n {
         let r = entry(words, i);
         if end < wide(r.start) {
-            return m;
+            return Searched {
+                met: m,
+                looked: i + 1,
+            };
         }
         m = pass(m, r, address);
         i = i + 1;
     }
-    m
+    Searched { met: m, looked: i }
 }

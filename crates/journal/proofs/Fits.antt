@@ -1,4 +1,4 @@
--- Every line of the log fits: what the calls say is short, and none delivers more than 4,096 bytes.
+-- Every line of the log fits: what is printed of an answer is short, and no call delivers more than 4,096 bytes.
 use Prim.Native.Nat.{ℕ, _≤_}
 use native.Mathlib.Omega.{arith}
 use mathlib.Core.Path.{_≡_, refl, sym, _∙_}
@@ -10,7 +10,7 @@ use borrow.Author.Tests.{ltb-true, ltb-false}
 use Rattle.octets.specs.Lists.{all}
 use Rattle.octets.proofs.Lists.{and-left, and-right}
 use Rattle.state.specs.State.{State, commandOf, recordsOf}
-use Rattle.state.specs.Verdict.{replied, accepted, Check, verdict}
+use Rattle.state.specs.Verdict.{replied, accepted, withoutLooked, Check, verdict}
 use Rattle.state.proofs.Verdict.{none-applies}
 use Rattle.state.proofs.Commands.{kept}
 use Rattle.state.proofs.Places.{counts-fill}
@@ -29,16 +29,16 @@ use Rattle.device.specs.Step.{Device, callOf}
 use Rattle.device.specs.Frame.{isReadable, takenUp, stepRead, letterOf, frameCall, frameSays, frameDelivers}
 use Rattle.journal.specs.Claims.{LineFits}
 
--- a verdict is short if the numbers of its checks are, and its reply where it is accepted
+-- what is printed of a verdict is short if the numbers of its checks are, and so is what is printed of its reply where it is accepted
 verdict-short :
-    (cs : List Check) (ns : List ℕ) → all (λ c. ltb (c .number) 100) cs ≡ true → (accepted (verdict cs (replied ns)) ≡ true → Short (replied ns))
-    → Short (verdict cs (replied ns))
+    (cs : List Check) (ns : List ℕ) → all (λ c. ltb (c .number) 100) cs ≡ true → (accepted (verdict cs (replied ns)) ≡ true → Short (replied (take 2 ns)))
+    → Short (withoutLooked (verdict cs (replied ns)))
 unfolding verdict accepted all
 verdict-short [] ns low reply = reply refl
 verdict-short (c ∷ cs) ns low reply = go (c .applies) refl (verdict-short cs ns (and-right (ltb (c .number) 100) _ low))
   where
-    go : (b : Bool) → c .applies ≡ b → ((accepted (verdict cs (replied ns)) ≡ true → Short (replied ns)) → Short (verdict cs (replied ns)))
-        → Short (verdict (c ∷ cs) (replied ns))
+    go : (b : Bool) → c .applies ≡ b → ((accepted (verdict cs (replied ns)) ≡ true → Short (replied (take 2 ns))) → Short (withoutLooked (verdict cs (replied ns))))
+        → Short (withoutLooked (verdict (c ∷ cs) (replied ns)))
     go true e rest = rw e (refusal (ltb-true _ _ (and-left (ltb (c .number) 100) _ low)))
     go false e rest = rw e (rest (λ a. reply (rw e a)))
 
@@ -48,7 +48,7 @@ unfolding fetchSays
 fetched-size s storeLen windowLen destLen c a n e = ltb-false _ _ (none-applies _ _ e .0)
 
 -- what the call of a step says
-says-short : (m : Machine) (p : Step) (bytes dest window : List ℕ) → Short (says m (callOf p bytes dest window))
+says-short : (m : Machine) (p : Step) (bytes dest window : List ℕ) → Short (withoutLooked (says m (callOf p bytes dest window)))
 unfolding beginSays fetchSays endSays hostSays ownSays all
 says-short m (Begin c) bytes dest window = verdict-short _ _ refl (λ e. none)
 says-short m (Fetch c a n) bytes dest window =
@@ -84,16 +84,16 @@ delivers-size m p = go (accepted (says m p)) refl
     go false e = omega arith
 
 -- what the reader says of a frame that it refuses
-unread-short : (frame : List ℕ) → isReadable frame ≡ false → Short (readSays frame)
+unread-short : (frame : List ℕ) → isReadable frame ≡ false → Short (withoutLooked (readSays frame))
 unfolding readSays fieldsSay all
 unread-short frame e = verdict-short _ _ refl (λ a. absurd (false≢true (sym e ∙ a)))
 
 module _ (d : Device) (frame : List ℕ) where
-  frame-short : Short (frameSays d frame)
+  frame-short : Short (withoutLooked (frameSays d frame))
   unfolding frameSays
   frame-short = go (isReadable frame) refl
     where
-      go : (b : Bool) → isReadable frame ≡ b → Short (cond b (says (d .machine) (frameCall d frame)) (readSays frame))
+      go : (b : Bool) → isReadable frame ≡ b → Short (withoutLooked (cond b (says (d .machine) (frameCall d frame)) (readSays frame)))
       go true e = says-short (d .machine) (stepRead frame) (dataOf frame (takenUp frame)) (d .dest) (d .window)
       go false e = unread-short frame e
 

@@ -10,21 +10,20 @@ use borrow.Author.Tests.{ltb-true, ltb-false}
 use Rattle.state.specs.declared.refusal.Refusal.{Refusal}
 use Rattle.state.specs.declared.refusal.Refusal.the-variants.{EntryMisaligned}
 use Rattle.state.specs.Refusals.{number}
-use Rattle.state.specs.Verdict.{Reply, refused, replied, accepted, verdict}
+use Rattle.state.specs.Verdict.{Reply, refused, replied, accepted, lookedIn, verdict}
 use Rattle.octets.specs.Lists.{part}
 use Rattle.endian.specs.LittleEndian.{leastFirst}
 use Rattle.cache.specs.Runs.{Machine, given, says, delivers, after, ran}
-use Rattle.admission.specs.declared.admit.Admission.{Admission}
-use Rattle.admission.specs.declared.admit.Admission.the-variants.{Admitted, Barred}
-use Rattle.admission.specs.Plan.{admissionReply}
+use Rattle.listing.specs.declared.Gathered.{Gathered}
+use Rattle.listing.specs.declared.Gathered.the-variants.{Entries, Refused}
 use Rattle.prp.specs.Pages.{Walk, needed, withList, fit, chained, firstCount, secondCount}
 use Rattle.prp.specs.Entries.{Got, entriesIn, isMultiple, _then_, pageSays}
-use Rattle.prp.specs.Walk.{Asks, listOne, gotOne, entriesOne, onward, listTwo, gotTwo, entriesTwo, listsSay, asksOf}
+use Rattle.prp.specs.Walk.{Asks, listOne, gotOne, entriesOne, onward, listTwo, gotTwo, entriesTwo, listsSay, lookedInLists, asksOf}
 use Rattle.prp.proofs.Reading.{entry-at, entries-first, entries-beside, entries-front, entries-taken}
 use Rattle.prp.proofs.Answers.{then-first}
 use Rattle.prp.proofs.Entries.{page-nothing}
-use Rattle.prp.proofs.Listed.{entries-one, entries-two}
-use Rattle.listing.specs.Page.{ListsPage}
+use Rattle.prp.proofs.Listed.{entries-one, entries-two, lists-one, lists-two}
+use Rattle.listing.specs.Page.{gatheredReply, lookedBy, ListsPage}
 use Rattle.lists.specs.Lists.{listsMake, Lists}
 
 -- a part that lies in the first of two lists
@@ -41,9 +40,14 @@ module _ (words store : List ℕ) (w : Walk) where
   abbrev asks : Asks
   asks = asksOf m
 
-  pub wrong-second : (scratch : List ℕ) → isMultiple 8 (w .prp2) ≡ false → Lists words store w (Barred EntryMisaligned) words store scratch
+  pub wrong-second : (scratch : List ℕ) → isMultiple 8 (w .prp2) ≡ false → Lists words store w (Refused EntryMisaligned) words store scratch
   unfolding verdict accepted listsMake ran
-  wrong-second scratch wrong = record { answer = rw wrong; machine = rw wrong; entries = λ e. absurd (false≢true e) }
+  wrong-second scratch wrong = record {
+    answer = rw wrong;
+    machine = rw wrong;
+    entries = λ e. absurd (false≢true e);
+    looked = λ e. absurd (false≢true e);
+  }
 
   module _ (right : isMultiple 8 (w .prp2) ≡ true) where
     -- what is said of the pages, with another or without
@@ -60,9 +64,9 @@ module _ (words store : List ℕ) (w : Walk) where
     makes = rw right
 
     -- the first page
-    module _ (r : Admission) (words′ store′ entries′ : List ℕ)
+    module _ (r : Gathered) (words′ store′ entries′ : List ℕ)
         (P : ListsPage words store (w .window) (w .command) (w .prp2) (firstCount w) r words′ store′ entries′) where
-      said-one : admissionReply r ≡ pageSays (firstCount w) (gotOne asks w)
+      said-one : gatheredReply r ≡ pageSays (firstCount w) (gotOne asks w)
       unfolding ran
       said-one = P .answer
 
@@ -70,9 +74,13 @@ module _ (words store : List ℕ) (w : Walk) where
       unfolding ran
       left-one = P .machine
 
-      fetched-one : accepted (admissionReply r) ≡ true → entries′ ≡ gotOne asks w .bytes
+      fetched-one : accepted (gatheredReply r) ≡ true → entries′ ≡ gotOne asks w .bytes
       unfolding ran
       fetched-one e = P .bytes (then-first _ (gotOne asks w .answer) (ap accepted (sym said-one) ∙ e))
+
+      looked-one : accepted (gatheredReply r) ≡ true → lookedBy r ≡ lookedIn (gotOne asks w .answer)
+      unfolding ran
+      looked-one = P .looked
 
       -- there is no other
       module _ (alone : chained w ≡ false) (listed : withList w ≡ true) where
@@ -91,6 +99,7 @@ module _ (words store : List ℕ) (w : Walk) where
               entries = λ e.
                   entries-front (needed w) entries′ rest (P .sized ∙ ap (λ (k : ℕ). 8 * k) (sym few)) ∙ ap (entriesIn (needed w)) (fetched-one e)
                   ∙ ap (λ (k : ℕ). entriesIn k (gotOne asks w .bytes)) few ∙ sym (entries-one asks w listed alone);
+              looked = λ e. looked-one e ∙ sym (lists-one asks w alone);
             }
 
       -- there is another
@@ -98,25 +107,26 @@ module _ (words store : List ℕ) (w : Walk) where
         goes-on : listsSay asks w ≡ (pageSays (firstCount w) (gotOne asks w) then pageSays (secondCount w) (gotTwo asks w))
         goes-on = first-said ∙ ap pagesSay linked
 
-        makes-by : (b : Bool) → accepted (admissionReply r) ≡ b → listsMake asks w ≡ listOne asks w ∷ elim b [ true ↦ listTwo asks w ∷ [] | false ↦ [] ]
+        makes-by : (b : Bool) → accepted (gatheredReply r) ≡ b → listsMake asks w ≡ listOne asks w ∷ elim b [ true ↦ listTwo asks w ∷ [] | false ↦ [] ]
         makes-by b e = makes ∙ rw (linked, ← said-one, e)
 
-        pub first-refused : (why : Refusal) → r ≡ Barred why → (scratch : List ℕ) → Lists words store w (Barred why) words′ store′ scratch
+        pub first-refused : (why : Refusal) → r ≡ Refused why → (scratch : List ℕ) → Lists words store w r words′ store′ scratch
         unfolding accepted
         first-refused why is scratch =
-            let said : refused (number why) ≡ pageSays (firstCount w) (gotOne asks w) = sym (ap admissionReply is) ∙ said-one in
-            let no : accepted (admissionReply r) ≡ false = ap (λ (v : Admission). accepted (admissionReply v)) is in
+            let said : refused (number why) ≡ pageSays (firstCount w) (gotOne asks w) = sym (ap gatheredReply is) ∙ said-one in
+            let no : accepted (gatheredReply r) ≡ false = ap (λ (v : Gathered). accepted (gatheredReply v)) is in
             record {
-              answer = sym (goes-on ∙ ap (λ (q : Reply). q then pageSays (secondCount w) (gotTwo asks w)) (sym said));
+              answer = ap gatheredReply is ∙ sym (goes-on ∙ ap (λ (q : Reply). q then pageSays (secondCount w) (gotTwo asks w)) (sym said));
               machine = left-one ∙ ap (ran m) (sym (makes-by false no));
-              entries = λ e. absurd (false≢true e);
+              entries = λ e. absurd (false≢true (sym no ∙ e));
+              looked = λ e. absurd (false≢true (sym no ∙ e));
             }
 
         -- the first page is as it should be
-        module _ (is : r ≡ Admitted) (some : 0 < fit w) where
-          taken : accepted (admissionReply r) ≡ true
+        module _ (look : ℕ) (is : r ≡ Entries look) (some : 0 < fit w) where
+          taken : accepted (gatheredReply r) ≡ true
           unfolding accepted
-          taken = ap (λ (v : Admission). accepted (admissionReply v)) is
+          taken = ap (λ (v : Gathered). accepted (gatheredReply v)) is
 
           all-fit : firstCount w ≡ fit w
           all-fit = omega (arith, ltb-true (fit w) (needed w) linked)
@@ -134,22 +144,22 @@ module _ (words store : List ℕ) (w : Walk) where
               ∙ sym (entry-at (fit w) entries′ (fit w - 1) (omega arith)) ∙ ap (λ (es : List ℕ). getD es (fit w - 1) 0) entries-held
 
           -- the second page, fetched from where the first one left the machine, over the onward entry
-          module _ (q : Admission) (words″ store″ entries″ : List ℕ)
+          module _ (q : Gathered) (words″ store″ entries″ : List ℕ)
               (Q : ListsPage words′ store′ (w .window) (w .command) (onward asks w) (secondCount w) q words″ store″ entries″) where
             abbrev got : Machine → Got
             got k = record { answer = says k (listTwo asks w); bytes = delivers k (listTwo asks w) }
 
-            said-two : admissionReply q ≡ pageSays (secondCount w) (gotTwo asks w)
+            said-two : gatheredReply q ≡ pageSays (secondCount w) (gotTwo asks w)
             said-two = Q .answer ∙ ap (λ (k : Machine). pageSays (secondCount w) (got k)) left-one
 
             said-both : listsSay asks w ≡ pageSays (secondCount w) (gotTwo asks w)
-            said-both = goes-on ∙ ap (λ (v : Reply). v then pageSays (secondCount w) (gotTwo asks w)) (sym said-one ∙ ap admissionReply is)
+            said-both = goes-on ∙ ap (λ (v : Reply). v then pageSays (secondCount w) (gotTwo asks w)) (sym said-one ∙ ap gatheredReply is)
 
             left-two : given words″ store″ ≡ ran m (listOne asks w ∷ listTwo asks w ∷ [])
             unfolding ran
             left-two = Q .machine ∙ ap (λ (k : Machine). after k (listTwo asks w)) left-one
 
-            fetched-two : accepted (admissionReply q) ≡ true → entries″ ≡ gotTwo asks w .bytes
+            fetched-two : accepted (gatheredReply q) ≡ true → entries″ ≡ gotTwo asks w .bytes
             fetched-two e =
                 let fetched = then-first _ (gotTwo asks w .answer) (ap accepted (sym said-two) ∙ e) in
                 Q .bytes (ap (λ (k : Machine). accepted (says k (listTwo asks w))) left-one ∙ fetched)
@@ -171,10 +181,22 @@ module _ (words store : List ℕ) (w : Walk) where
                 ∙ ap (take (fit w - 1)) entries-held)
                 (entries-front (secondCount w) entries″ rest″ (Q .sized) ∙ ap (entriesIn (secondCount w)) bytes)
 
+            looked-two : accepted (gatheredReply q) ≡ true → lookedBy q ≡ lookedIn (gotTwo asks w .answer)
+            looked-two e = Q .looked e ∙ ap (λ (k : Machine). lookedIn (says k (listTwo asks w))) left-one
+
+            -- what both fetches looked at
+            looked-sum : accepted (gatheredReply q) ≡ true → look + lookedBy q ≡ lookedInLists asks w
+            looked-sum e =
+                ap₂ _+_ (ap lookedBy (sym is) ∙ looked-one taken) (looked-two e) ∙ sym (lists-two asks w linked)
+
             pub two-pages : (low : ℕ) → low ≡ 8 * (fit w - 1) → (rest rest″ : List ℕ)
-                → Lists words store w q words″ store″ (take low (entries′ ++ rest) ++ (entries″ ++ rest″))
-            two-pages low here rest rest″ = record {
-              answer = said-two ∙ sym said-both;
-              machine = left-two ∙ ap (ran m) (sym (makes-by true taken));
-              entries = λ e. rw here (side-by-side rest rest″ (fetched-two e) ∙ sym (entries-two asks w listed linked));
-            }
+                → (s : Gathered) → gatheredReply s ≡ gatheredReply q → (accepted (gatheredReply q) ≡ true → lookedBy s ≡ look + lookedBy q)
+                → Lists words store w s words″ store″ (take low (entries′ ++ rest) ++ (entries″ ++ rest″))
+            two-pages low here rest rest″ s same added =
+                let taken-two : accepted (gatheredReply s) ≡ true → accepted (gatheredReply q) ≡ true = λ e. ap accepted (sym same) ∙ e in
+                record {
+                  answer = same ∙ said-two ∙ sym said-both;
+                  machine = left-two ∙ ap (ran m) (sym (makes-by true taken));
+                  entries = λ e. rw here (side-by-side rest rest″ (fetched-two (taken-two e)) ∙ sym (entries-two asks w listed linked));
+                  looked = λ e. added (taken-two e) ∙ looked-sum (taken-two e);
+                }

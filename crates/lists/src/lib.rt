@@ -1,10 +1,14 @@
 // The lists behind PRP2.
 ghost use mathlib.Core.Path.{_≡_};
-ghost use Prim.Native.Nat.{_-_, _/_, _%_, _≤_, _<_};
+ghost use mathlib.Core.Bool.{true};
+ghost use Prim.Native.Nat.{_+_, _-_, _/_, _%_, _≤_, _<_};
 ghost use lib.ListN.{length};
+ghost use Rattle.state.specs.Limits.{recordLimit};
+ghost use Rattle.state.specs.Verdict.{accepted};
 ghost use Rattle.prp.specs.Pages.{pageSize, entrySize, needed};
+ghost use Rattle.listing.specs.Page.{gatheredReply, lookedBy};
 ghost use Rattle.lists.specs.Lists.{asked, Lists};
-use admission::admit::Admission;
+use listing::Gathered;
 use listing::list_page;
 use pages::entries::entry;
 use pages::spans::behind_first;
@@ -18,6 +22,17 @@ fn room_in_page(prp2: u64) -> usize
     (4096 - (prp2 % 4096) as usize) / 8
 }
 
+// With the records that the first page's fetch looked at.
+fn add(looked: usize, second: Gathered) -> Gathered
+    requires { ⌜ (looked ≤ recordLimit) × (lookedBy second ≤ recordLimit) ⌝ }
+    ensures { λ r. ⌜ (gatheredReply r ≡ gatheredReply second) × (accepted (gatheredReply second) ≡ true → lookedBy r ≡ looked + lookedBy second) ⌝ }
+{
+    match second {
+        Gathered::Entries(more) => Gathered::Entries(looked + more),
+        Gathered::Refused(why) => Gathered::Refused(why),
+    }
+}
+
 // The lists behind PRP2, one page of them or two: the second is fetched over the onward entry, so that the entries stand side by side.
 pub fn gather_lists(
     state: &mut [u16; CacheState::WORDS],
@@ -28,12 +43,12 @@ pub fn gather_lists(
     prp1: u64,
     prp2: u64,
     transfer: usize,
-) -> Admission
+) -> Gathered
     requires { ⌜ (128 ≤ length (now scratch)) × (1 < needed (asked command prp1 prp2 transfer (now window))) × (0 < transfer) × (transfer ≤ 65536) ⌝ }
     ensures { λ r. ⌜ Lists (now (state .entry)) (now (store .entry)) (asked command prp1 prp2 transfer (now (window .entry))) r (now (state .exit)) (now (store .exit)) (now (scratch .exit)) ⌝ }
 {
     if prp2 % 8 != 0 {
-        return Admission::Barred(Refusal::EntryMisaligned);
+        return Gathered::Refused(Refusal::EntryMisaligned);
     }
     let count = behind_first(prp1, transfer);
     let fit = room_in_page(prp2);
@@ -59,13 +74,13 @@ pub fn gather_lists(
         prp2,
         fit,
     );
-    if let Admission::Barred(why) = first {
-        return Admission::Barred(why);
-    }
+    let Gathered::Entries(looked) = first else {
+        return first;
+    };
     let last = fit - 1;
     let onward = entry(scratch, last);
     let low = 8 * last;
-    list_page(
+    let second = list_page(
         state,
         store,
         window,
@@ -73,5 +88,6 @@ pub fn gather_lists(
         command,
         onward,
         count - last,
-    )
+    );
+    add(looked, second)
 }

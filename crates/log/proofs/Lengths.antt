@@ -1,4 +1,4 @@
--- How long a line is, where its reply is short and no more than 4,096 bytes are delivered.
+-- How long a line is, where what it prints of its reply is short and no more than 4,096 bytes are delivered.
 use Prim.Native.Nat.{ℕ, _+_, _≤_, _<_, _^_}
 use native.Mathlib.Omega.{arith}
 use mathlib.Core.Path.{_≡_}
@@ -6,7 +6,7 @@ use mathlib.Core.List.{List, [], _∷_, _++_}
 use mathlib.Core.Bool.{Bool, true, false, cond}
 use lib.Dec.{eqb}
 use lib.ListN.{length, length-append}
-use Rattle.state.specs.Verdict.{Reply, refused, replied}
+use Rattle.state.specs.Verdict.{Reply, refused, replied, withoutLooked}
 use Rattle.octets.specs.Text.{ascii}
 use Rattle.text.specs.Decimal.{decimal}
 use Rattle.log.specs.Line.{fetchLetter, shown, deliveredFields, answerFields, spaced, lineOf}
@@ -53,16 +53,16 @@ module _ (letter : ℕ) (delivered : List ℕ) (few : length delivered ≤ 4096)
 
   -- the number, the letter, `ok`, two numbers, the bytes and the newline
   pub line-short :
-      (number : ℕ) (reply : Reply) → number < 10 ^ 20 → Short reply
+      (number : ℕ) (reply : Reply) → number < 10 ^ 20 → Short (withoutLooked reply)
       → length (lineOf number letter reply delivered) ≤ 20 + 2 + 3 + 5 + 5 + 8193 + 1
   unfolding lineOf
   line-short number reply below short =
-      let fields = answerFields letter reply delivered in
+      let fields = answerFields letter (withoutLooked reply) delivered in
       omega (
         arith,
         length-append (decimal number ++ spaced ((letter ∷ []) ∷ fields)) (ascii "\n"),
         length-append (decimal number) (spaced ((letter ∷ []) ∷ fields)),
         decimal-short 20 number (omega arith) below,
         length-spaced (letter ∷ []) fields,
-        answer-short reply short,
+        answer-short (withoutLooked reply) short,
       )

@@ -1,13 +1,13 @@
--- One line of the log (01, the agreed scope, "The log program"; docs/RULES.md has its rules).
+-- One line of the log (01, the agreed scope, "The log program", and request F-6 of 02, the agreed changes; docs/RULES.md has their rules).
 use Prim.Native.Nat.{ℕ}
 use Prim.Native.Char.{code}
 use mathlib.Core.List.{List, [], _∷_, _++_, map}
 use mathlib.Core.Bool.{cond}
 use lib.Dec.{eqb}
 use Rattle.state.specs.Refusals.{number}
-use Rattle.state.specs.Verdict.{Reply, refused, replied}
+use Rattle.state.specs.Verdict.{Reply, refused, replied, withoutLooked}
 use Rattle.log.specs.declared.line.Answer.{Answer}
-use Rattle.log.specs.declared.line.Answer.the-variants.{Done, Count, Counts, Refused}
+use Rattle.log.specs.declared.line.Answer.the-variants.{Done, Count, Counts, Fetched, Refused}
 use Rattle.octets.specs.Text.{ascii}
 use Rattle.text.specs.Decimal.{decimal}
 use Rattle.text.specs.Hexadecimal.{hexadecimal}
@@ -17,6 +17,7 @@ abbrev pub answerReply : Answer → Reply
 answerReply Done = replied []
 answerReply (Count n) = replied (n ∷ [])
 answerReply (Counts m n) = replied (m ∷ n ∷ [])
+answerReply (Fetched fresh replayed looked) = replied (fresh ∷ replayed ∷ looked ∷ [])
 answerReply (Refused r) = refused (number r)
 
 -- 01's letter of a fetch
@@ -42,9 +43,10 @@ unfoldable pub spaced : List (List ℕ) → List ℕ
 spaced [] = []
 spaced (field ∷ fields) = ascii " " ++ field ++ spaced fields
 
--- a line: its number, the letter, the answer, and one newline
+-- a line: its number, the letter, the answer, of which it does not print how many records were looked at (F-6), and one newline
 unfoldable pub lineOf : (number letter : ℕ) → Reply → (delivered : List ℕ) → List ℕ
-lineOf number letter reply delivered = decimal number ++ spaced ((letter ∷ []) ∷ answerFields letter reply delivered) ++ ascii "\n"
+lineOf number letter reply delivered =
+    decimal number ++ spaced ((letter ∷ []) ∷ answerFields letter (withoutLooked reply) delivered) ++ ascii "\n"
 
 -- the line that stands alone where the input is too long
 abbrev pub tooLong : List ℕ

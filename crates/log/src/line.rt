@@ -7,7 +7,7 @@ use text::put_hex;
 use text::wide;
 ghost use mathlib.Core.Path.{_≡_};
 ghost use mathlib.Core.List.{_++_, map};
-ghost use Rattle.state.specs.Verdict.{accepted, numbersOf};
+ghost use Rattle.state.specs.Verdict.{accepted, numbersOf, withoutLooked};
 ghost use Rattle.octets.specs.Text.{ascii, Puts};
 ghost use Rattle.text.specs.Decimal.{decimal};
 ghost use Rattle.log.specs.Line.{answerReply, deliveredFields, answerFields, spaced, lineOf, tooLong};
@@ -17,8 +17,10 @@ pub enum Answer {
     Done,
     // how many bytes a host write wrote
     Count(usize),
-    // fresh and replayed bytes of a fetch, records and bytes of an end, bytes of an own write and how many of their addresses were not held before
+    // records and bytes of an end, bytes of an own write and how many of their addresses were not held before
     Counts(usize, usize),
+    // fresh and replayed bytes of a fetch, and how many records it looked at
+    Fetched(usize, usize, usize),
     Refused(Refusal),
 }
 
@@ -30,6 +32,7 @@ pub fn is_accepted(answer: Answer) -> bool
         Answer::Done => true,
         Answer::Count(_) => true,
         Answer::Counts(_, _) => true,
+        Answer::Fetched(_, _, _) => true,
         Answer::Refused(_) => false,
     }
 }
@@ -67,7 +70,7 @@ pub fn put_too_long(out: &mut [u8], at: usize) -> usize
 
 // `no` and the number of a refusal; or `ok`, the numbers of a reply and what was delivered.
 fn put_answer(out: &mut [u8], at: usize, letter: u8, answer: Answer, delivered: &[u8]) -> usize
-    ensures { λ r. ⌜ Puts (now (out .entry)) at (spaced (answerFields letter (answerReply answer) (now (delivered .entry)))) r (now (out .exit)) ⌝ }
+    ensures { λ r. ⌜ Puts (now (out .entry)) at (spaced (answerFields letter (withoutLooked (answerReply answer)) (now (delivered .entry)))) r (now (out .exit)) ⌝ }
 {
     if let Answer::Refused(refusal) = answer {
         let next = put_word(out, at, b"no");
@@ -78,18 +81,23 @@ fn put_answer(out: &mut [u8], at: usize, letter: u8, answer: Answer, delivered: 
     put_delivered(out, next, letter, delivered)
 }
 
-// The numbers of a reply, if there are any.
+// The numbers of a reply, if there are any, but for that of the records looked at.
 fn put_numbers(out: &mut [u8], at: usize, answer: Answer) -> usize
-    ensures { λ r. ⌜ Puts (now (out .entry)) at (spaced (map decimal (numbersOf (answerReply answer)))) r (now (out .exit)) ⌝ }
+    ensures { λ r. ⌜ Puts (now (out .entry)) at (spaced (map decimal (numbersOf (withoutLooked (answerReply answer))))) r (now (out .exit)) ⌝ }
 {
     match answer {
         Answer::Count(n) => put_number(out, at, n),
-        Answer::Counts(m, n) => {
-            let next = put_number(out, at, m);
-            put_number(out, next, n)
-        }
+        Answer::Counts(m, n) => put_two(out, at, m, n),
+        Answer::Fetched(fresh, replayed, _) => put_two(out, at, fresh, replayed),
         _ => put(out, at, b""),
     }
+}
+
+fn put_two(out: &mut [u8], at: usize, m: usize, n: usize) -> usize
+    ensures { λ r. ⌜ Puts (now (out .entry)) at (ascii " " ++ decimal m ++ (ascii " " ++ decimal n)) r (now (out .exit)) ⌝ }
+{
+    let next = put_number(out, at, m);
+    put_number(out, next, n)
 }
 
 // One field with the blank before it: a word, a number, or what a fetch delivered.

@@ -10,14 +10,14 @@ ghost use Rattle.state.specs.Limits.{recordLimit};
 ghost use Rattle.state.specs.Records.{inSpan, span};
 ghost use Rattle.state.specs.Verdict.{replied};
 ghost use Rattle.state.specs.Runs.{runsFrom};
-ghost use Rattle.state.specs.Answers.{fetchReply};
+ghost use Rattle.state.specs.Answers.{mapFetchReply};
 ghost use Rattle.bits.specs.Bits.{wordLimit, mapLimit, isSet};
 ghost use Rattle.bytemap.specs.Map.{mapOf};
 ghost use Rattle.bytemap.specs.Fetch.{fetchSays};
 use mapcalls::ByteMap;
 use mapcalls::holds::holds;
 use state::CacheState;
-use state::FetchAnswer;
+use state::MapFetchAnswer;
 use state::Refusal;
 use state::range;
 
@@ -33,12 +33,12 @@ fn has_room(words: &[u64], runs: usize, address: usize, size: usize) -> bool
 }
 
 // The reply of an accepted fetch: the counts of its span.
-fn counted(words: &[u64], address: usize, size: usize) -> FetchAnswer
+fn counted(words: &[u64], address: usize, size: usize) -> MapFetchAnswer
     requires { ⌜ (length (now words) ≡ wordLimit) × (address + size ≤ mapLimit) ⌝ }
-    ensures { λ r. ⌜ fetchReply r ≡ replied (count (λ x. not (isSet (now (words .entry)) x)) (span address size) ∷ count (isSet (now (words .entry))) (span address size) ∷ []) ⌝ }
+    ensures { λ r. ⌜ mapFetchReply r ≡ replied (count (λ x. not (isSet (now (words .entry)) x)) (span address size) ∷ count (isSet (now (words .entry))) (span address size) ∷ []) ⌝ }
 {
     let replayed = bits::count_span(words, address, address + size);
-    FetchAnswer::Done {
+    MapFetchAnswer::Done {
         fresh: size - replayed,
         replayed,
     }
@@ -53,31 +53,31 @@ pub fn judge(
     destination_len: usize,
     address: usize,
     size: usize,
-) -> FetchAnswer
+) -> MapFetchAnswer
     requires { ⌜ (length (now words) ≡ wordLimit) × (length (now values) ≡ mapLimit) ⌝ }
-    ensures { λ r. ⌜ fetchReply r ≡ fetchSays (mapOf flag (now (words .entry)) (now (values .entry))) «window_len» «destination_len» address size ⌝ }
+    ensures { λ r. ⌜ mapFetchReply r ≡ fetchSays (mapOf flag (now (words .entry)) (now (values .entry))) «window_len» «destination_len» address size ⌝ }
 {
     if CacheState::TRANSFER < size {
-        return FetchAnswer::Refused(Refusal::LengthTooLong);
+        return MapFetchAnswer::Refused(Refusal::LengthTooLong);
     }
     if ByteMap::ADDRESSES < window_len {
-        return FetchAnswer::Refused(Refusal::WindowBeyondMap);
+        return MapFetchAnswer::Refused(Refusal::WindowBeyondMap);
     }
     if range::outside(window_len, address, size) {
-        return FetchAnswer::Refused(Refusal::OutsideWindow);
+        return MapFetchAnswer::Refused(Refusal::OutsideWindow);
     }
     if destination_len < size {
-        return FetchAnswer::Refused(Refusal::BufferTooShort);
+        return MapFetchAnswer::Refused(Refusal::BufferTooShort);
     }
     let runs = bits::runs(words);
     if !holds(flag, words, values, runs) {
-        return FetchAnswer::Refused(Refusal::StateBroken);
+        return MapFetchAnswer::Refused(Refusal::StateBroken);
     }
     if flag == 0 {
-        return FetchAnswer::Refused(Refusal::CommandNotOpen);
+        return MapFetchAnswer::Refused(Refusal::CommandNotOpen);
     }
     if !has_room(words, runs, address, size) {
-        return FetchAnswer::Refused(Refusal::TooManyRecords);
+        return MapFetchAnswer::Refused(Refusal::TooManyRecords);
     }
     counted(words, address, size)
 }

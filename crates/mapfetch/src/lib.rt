@@ -8,7 +8,7 @@ ghost use Rattle.bytemap.specs.Fetch.{Fetches};
 ghost use Rattle.mapfetch.specs.Delivery.{Fits, Delivers};
 use crate::judge::judge;
 use mapcalls::ByteMap;
-use state::FetchAnswer;
+use state::MapFetchAnswer;
 use stretches::take::take;
 
 pub mod judge;
@@ -39,7 +39,7 @@ fn fetch_words(
     destination: &mut [u8],
     address: usize,
     size: usize,
-) -> FetchAnswer
+) -> MapFetchAnswer
     requires { ⌜ (length (now words) ≡ wordLimit) × (length (now values) ≡ mapLimit) ⌝ }
     ensures { λ r. ⌜ Fetches (mapOf flag (now (words .entry)) (now (values .entry))) (now (window .entry)) (now (destination .entry)) address size r (mapOf flag (now (words .exit)) (now (values .exit))) (now (destination .exit)) ⌝ }
 {
@@ -53,10 +53,10 @@ fn fetch_words(
         size,
     );
     match answer {
-        FetchAnswer::Refused(why) => FetchAnswer::Refused(why),
-        FetchAnswer::Done { fresh, replayed } => {
+        MapFetchAnswer::Refused(why) => MapFetchAnswer::Refused(why),
+        MapFetchAnswer::Done { fresh, replayed } => {
             deliver(words, values, window, destination, address, size);
-            FetchAnswer::Done { fresh, replayed }
+            MapFetchAnswer::Done { fresh, replayed }
         }
     }
 }
@@ -69,7 +69,7 @@ pub fn fetch(
     destination: &mut [u8],
     address: usize,
     size: usize,
-) -> FetchAnswer
+) -> MapFetchAnswer
     ensures { λ r. ⌜ Fetches (mapOf (now (flag .entry)) (now (words .entry)) (now (values .entry))) (now (window .entry)) (now (destination .entry)) address size r (mapOf (now (flag .entry)) (now (words .exit)) (now (values .exit))) (now (destination .exit)) ⌝ }
 {
     fetch_words(*flag, words, values, window, destination, address, size)

@@ -11,7 +11,7 @@ ghost use Rattle.bits.specs.Bits.{wordLimit, mapLimit, isSet, wordsOf};
 ghost use Rattle.bytemap.specs.Map.{mapOf};
 ghost use Rattle.bytemap.specs.OwnWrite.{ownSays, OwnWrites};
 use mapcalls::ByteMap;
-use state::FetchAnswer;
+use state::MapFetchAnswer;
 use state::OwnWriteAnswer;
 
 // An own write is judged as a fetch of its span to a destination that has just the room.
@@ -28,8 +28,8 @@ fn judge(
 {
     let fetched = mapfetch::judge::judge(flag, words, values, window_len, size, address, size);
     match fetched {
-        FetchAnswer::Refused(why) => OwnWriteAnswer::Refused(why),
-        FetchAnswer::Done { fresh, replayed: _ } => OwnWriteAnswer::Done {
+        MapFetchAnswer::Refused(why) => OwnWriteAnswer::Refused(why),
+        MapFetchAnswer::Done { fresh, replayed: _ } => OwnWriteAnswer::Done {
             written: size,
             fresh,
         },

@@ -6,7 +6,7 @@ use mathlib.Core.Bool.{Bool, cond, _&&_}
 use lib.ListN.{length, drop, replicate}
 use Rattle.octets.specs.Lists.{all}
 use Rattle.state.specs.declared.Record.{Record}
-use Rattle.state.specs.Records.{held, span, addresses, total, place, countFresh, countHeld, keep, lowest, highest, joined}
+use Rattle.state.specs.Records.{held, span, addresses, total, place, countFresh, countHeld, keep, lowest, highest, joined, lookedUpTo, looked}
 use Rattle.state.specs.State.{recordsOf, ascending, commandHolds, holds}
 use Rattle.state.specs.Verdict.{Reply, accepted, verdict}
 use Rattle.cache.specs.Fetch.{fetchSays, fetchState, fetchStore, fetchDest}
@@ -15,7 +15,7 @@ use Rattle.endian.specs.LittleEndian.{leastFirst}
 use Rattle.situations.specs.Steps.{sameNumbers, sameAnswer, sameRecords}
 use Rattle.prp.specs.Pages.{Walk, spanLengths}
 use Rattle.prp.specs.Entries.{entriesIn}
-use Rattle.prp.specs.Walk.{answerBy, fetchesBy, pageEntries, walkSays, walkFetches, walkAfter, walkScratch, walkAddresses, walkLengths}
+use Rattle.prp.specs.Walk.{lookedBehind, answerBy, fetchesBy, pageEntries, walkSays, walkFetches, walkAfter, walkScratch, walkAddresses, walkLengths}
 
 -- The program that the marked walks try: the definitions of the walk. What the walks are about stands on a line of its own, where a wrong program
 -- can be put in its place: then a walk fails.
@@ -54,9 +54,9 @@ fronted front list = front ++ drop (length front) list
 
 -- does the walk come to what it must?
 unfoldable pub passes : Marked → Bool
-unfolding sameNumbers sameAnswer sameRecords walkSays answerBy walkFetches fetchesBy walkScratch walkAddresses walkLengths pageEntries spanLengths
-    entriesIn leastFirst ran fetchSays fetchState fetchStore fetchDest accepted verdict all ascending commandHolds holds total held span countFresh
-    countHeld keep lowest highest joined addresses place
+unfolding sameNumbers sameAnswer sameRecords walkSays answerBy lookedBehind walkFetches fetchesBy walkScratch walkAddresses walkLengths pageEntries
+    spanLengths entriesIn leastFirst ran fetchSays fetchState fetchStore fetchDest accepted verdict all ascending commandHolds holds total held span countFresh
+    countHeld keep lowest highest joined addresses place lookedUpTo looked
 passes k =
     let m = k .before in
     let w = k .walk in

@@ -1,5 +1,5 @@
--- The marked walks (request F-5 of 02, the agreed changes; docs/RULES.md has its rules). Each starts with command 0 open and no records, unless it
--- says otherwise, and is lent a scratch of 128 bytes, 18 places for addresses and 17 for lengths.
+-- The marked walks (requests F-5 and F-6 of 02, the agreed changes; docs/RULES.md has their rules). Each starts with command 0 open and no records,
+-- unless it says otherwise, and is lent a scratch of 128 bytes, 18 places for addresses and 17 for lengths.
 use Prim.Native.Nat.{ℕ, _+_, _-_, _*_, _/_, _%_, _^_}
 use mathlib.Core.Path.{_≡_}
 use mathlib.Core.List.{List, [], _∷_, _++_, map}
@@ -68,13 +68,14 @@ walkOf prp1 prp2 transfer window = record {
   window = window;
 }
 
--- a walk that gives these spans, one that is refused once PRP1 is judged, and one that is refused before
+-- a walk that gives these spans after its list fetches looked at so many records, one that is refused once PRP1 is judged, and one that is refused
+-- before
 module _ (m : Machine) (w : Walk) where
-  abbrev pub gives : (addresses lengths : List ℕ) → List Record → Marked
-  gives addresses lengths rs = record {
+  abbrev pub gives : (addresses lengths : List ℕ) (looked : ℕ) → List Record → Marked
+  gives addresses lengths looked rs = record {
     before = m;
     walk = w;
-    answer = replied (length addresses ∷ []);
+    answer = replied (length addresses ∷ looked ∷ []);
     addresses = addresses;
     lengths = lengths;
     records = rs;
@@ -92,10 +93,10 @@ module _ (m : Machine) (w : Walk) where
 unfoldable pub onePage : List Marked
 unfolding opened
 onePage =
-    gives opened (walkOf 4096 3 4096 []) (4096 ∷ []) (4096 ∷ []) []
-    ∷ gives opened (walkOf 4096 3 1 []) (4096 ∷ []) (1 ∷ []) []
-    ∷ gives opened (walkOf 4100 3 4092 []) (4100 ∷ []) (4092 ∷ []) []
-    ∷ gives opened (walkOf (top - 4) 3 4 []) ((top - 4) ∷ []) (4 ∷ []) []
+    gives opened (walkOf 4096 3 4096 []) (4096 ∷ []) (4096 ∷ []) 0 []
+    ∷ gives opened (walkOf 4096 3 1 []) (4096 ∷ []) (1 ∷ []) 0 []
+    ∷ gives opened (walkOf 4100 3 4092 []) (4100 ∷ []) (4092 ∷ []) 0 []
+    ∷ gives opened (walkOf (top - 4) 3 4 []) ((top - 4) ∷ []) (4 ∷ []) 0 []
     ∷ []
 
 -- One page behind the first, PRP2. One byte more than a page, on the next page, which is not merged; two whole pages, the second of which is 0; one
@@ -103,9 +104,9 @@ onePage =
 unfoldable pub twoPages : List Marked
 unfolding opened
 twoPages =
-    gives opened (walkOf 4096 8192 4097 []) (4096 ∷ 8192 ∷ []) (4096 ∷ 1 ∷ []) []
-    ∷ gives opened (walkOf 4096 0 8192 []) (4096 ∷ 0 ∷ []) (4096 ∷ 4096 ∷ []) []
-    ∷ gives opened (walkOf 4100 20480 4093 []) (4100 ∷ 20480 ∷ []) (4092 ∷ 1 ∷ []) []
+    gives opened (walkOf 4096 8192 4097 []) (4096 ∷ 8192 ∷ []) (4096 ∷ 1 ∷ []) 0 []
+    ∷ gives opened (walkOf 4096 0 8192 []) (4096 ∷ 0 ∷ []) (4096 ∷ 4096 ∷ []) 0 []
+    ∷ gives opened (walkOf 4100 20480 4093 []) (4100 ∷ 20480 ∷ []) (4092 ∷ 1 ∷ []) 0 []
     ∷ []
 
 -- a window that ends with the list of two entries at 8
@@ -123,9 +124,9 @@ pagesOf n = map (λ k. 4096 * k) (span 2 n)
 unfoldable pub oneList : List Marked
 unfolding opened listWindow entriesOf pagesOf
 oneList =
-    gives opened (walkOf 4096 8 12288 listWindow) (4096 ∷ 20480 ∷ (top - 4096) ∷ []) (4096 ∷ 4096 ∷ 4096 ∷ []) (8 ∔ 16 ∷ [])
-    ∷ gives opened (walkOf 4096 0 65536 (entriesOf (pagesOf 15))) (4096 ∷ pagesOf 15) (replicate 16 4096) (0 ∔ 120 ∷ [])
-    ∷ gives opened (walkOf 4092 0 65536 (entriesOf (pagesOf 16))) (4092 ∷ pagesOf 16) (4 ∷ replicate 15 4096 ++ 4092 ∷ []) (0 ∔ 128 ∷ [])
+    gives opened (walkOf 4096 8 12288 listWindow) (4096 ∷ 20480 ∷ (top - 4096) ∷ []) (4096 ∷ 4096 ∷ 4096 ∷ []) 0 (8 ∔ 16 ∷ [])
+    ∷ gives opened (walkOf 4096 0 65536 (entriesOf (pagesOf 15))) (4096 ∷ pagesOf 15) (replicate 16 4096) 0 (0 ∔ 120 ∷ [])
+    ∷ gives opened (walkOf 4092 0 65536 (entriesOf (pagesOf 16))) (4092 ∷ pagesOf 16) (4 ∷ replicate 15 4096 ++ 4092 ∷ []) 0 (0 ∔ 128 ∷ [])
     ∷ gets opened (walkOf 4096 16 12288 listWindow) 9 []
     ∷ gets opened (walkOf 4096 (top - 8) 12288 listWindow) 9 []
     ∷ []
@@ -136,14 +137,14 @@ unfoldable pub twoLists : List Marked
 unfolding opened framed pagesOf
 twoLists =
     gives opened (walkOf 4096 4088 12288 (framed (20480 ∷ 24576 ∷ []) (0 ∷ []))) (4096 ∷ 20480 ∷ 24576 ∷ []) (4096 ∷ 4096 ∷ 4096 ∷ [])
-    (0 ∔ 16 ∷ 4088 ∔ 8 ∷ [])
+    1 (0 ∔ 16 ∷ 4088 ∔ 8 ∷ [])
     ∷ gives opened (walkOf 4092 4088 65536 (framed (pagesOf 16) (0 ∷ []))) (4092 ∷ pagesOf 16) (4 ∷ replicate 15 4096 ++ 4092 ∷ [])
-    (0 ∔ 128 ∷ 4088 ∔ 8 ∷ [])
+    1 (0 ∔ 128 ∷ 4088 ∔ 8 ∷ [])
     ∷ gives opened (walkOf 4096 4080 16384 (framed (20480 ∷ 24576 ∷ []) (28672 ∷ 0 ∷ []))) (4096 ∷ 28672 ∷ 20480 ∷ 24576 ∷ [])
-    (4096 ∷ 4096 ∷ 4096 ∷ 4096 ∷ []) (0 ∔ 16 ∷ 4080 ∔ 16 ∷ [])
+    (4096 ∷ 4096 ∷ 4096 ∷ 4096 ∷ []) 1 (0 ∔ 16 ∷ 4080 ∔ 16 ∷ [])
     ∷ gives opened (walkOf 4096 8184 12288 (replicate 4096 0 ++ framed (20480 ∷ 24576 ∷ []) (4096 ∷ []))) (4096 ∷ 20480 ∷ 24576 ∷ [])
-    (4096 ∷ 4096 ∷ 4096 ∷ []) (4096 ∔ 16 ∷ 8184 ∔ 8 ∷ [])
-    ∷ gives opened (walkOf 4096 4080 12288 (framed [] (20480 ∷ 24576 ∷ []))) (4096 ∷ 20480 ∷ 24576 ∷ []) (4096 ∷ 4096 ∷ 4096 ∷ []) (4080 ∔ 16 ∷ [])
+    (4096 ∷ 4096 ∷ 4096 ∷ []) 1 (4096 ∔ 16 ∷ 8184 ∔ 8 ∷ [])
+    ∷ gives opened (walkOf 4096 4080 12288 (framed [] (20480 ∷ 24576 ∷ []))) (4096 ∷ 20480 ∷ 24576 ∷ []) (4096 ∷ 4096 ∷ 4096 ∷ []) 0 (4080 ∔ 16 ∷ [])
     ∷ []
 
 -- 32, for each kind of entry: PRP1, by 1, by 2, and with the largest address; PRP2 as a page, by 8, and as a list, by 4; the first entry of a list and
@@ -219,7 +220,7 @@ inOrder =
     ∷ getsEarly (start store) (lent 4097 0 1 128 17 17 0) 21
     ∷ getsEarly (start store) (walkOf 4097 12 12288 listWindow) 21
     ∷ gets opened (lent 4097 0 1 128 17 17 0) 32 []
-    ∷ gives opened (lent 4096 0 1 128 17 17 0) (4096 ∷ []) (1 ∷ []) []
+    ∷ gives opened (lent 4096 0 1 128 17 17 0) (4096 ∷ []) (1 ∷ []) 0 []
     ∷ []
 
 -- A scratch of 200 bytes: as it was where the walk is refused before PRP1, and else zero in all its bytes.
@@ -228,7 +229,7 @@ unfolding store opened
 longScratch =
     getsEarly (start store) (lent 4096 0 1 200 17 17 0) 21
     ∷ gets opened (lent 4097 0 1 200 17 17 0) 32 []
-    ∷ gives opened (lent 4096 0 1 200 17 17 0) (4096 ∷ []) (1 ∷ []) []
+    ∷ gives opened (lent 4096 0 1 200 17 17 0) (4096 ∷ []) (1 ∷ []) 0 []
     ∷ []
 
 -- Entries that the command holds are replayed: from a walk after which the window changed, and from its own write.
@@ -236,15 +237,30 @@ unfoldable pub replayed : List Marked
 unfolding opened listWindow entriesOf ran ownSays ownState ownStore
 replayed =
     gives (walkAfter opened (walkOf 4096 8 12288 listWindow)) (walkOf 4096 8 12288 (replicate 24 1)) (4096 ∷ 20480 ∷ (top - 4096) ∷ [])
-    (4096 ∷ 4096 ∷ 4096 ∷ []) (8 ∔ 16 ∷ [])
+    (4096 ∷ 4096 ∷ 4096 ∷ []) 1 (8 ∔ 16 ∷ [])
     ∷ gives (ran opened (ownWrite 0 0 (entriesOf (20480 ∷ 24576 ∷ [])) (replicate 16 1) ∷ [])) (walkOf 4096 0 12288 (replicate 16 1))
-    (4096 ∷ 20480 ∷ 24576 ∷ []) (4096 ∷ 4096 ∷ 4096 ∷ []) (0 ∔ 16 ∷ [])
+    (4096 ∷ 20480 ∷ 24576 ∷ []) (4096 ∷ 4096 ∷ 4096 ∷ []) 1 (0 ∔ 16 ∷ [])
+    ∷ []
+
+-- F-6's number. Of four records a list's fetch looks at three: one below it, one that starts where it ends, which it passes and joins, and the next,
+-- which ends the search. Of two lists the first looks at both records there are, and the second, which lies below them, at the first of them; or it
+-- lies above them, and looks at both and at the one that the first list left.
+unfoldable pub recordsLooked : List Marked
+unfolding holding listWindow framed entriesOf
+recordsLooked =
+    gives (holding (0 ∔ 1 ∷ 24 ∔ 1 ∷ 26 ∔ 1 ∷ 40 ∔ 1 ∷ [])) (walkOf 4096 8 12288 listWindow) (4096 ∷ 20480 ∷ (top - 4096) ∷ [])
+    (4096 ∷ 4096 ∷ 4096 ∷ []) 3 (0 ∔ 1 ∷ 8 ∔ 17 ∷ 26 ∔ 1 ∷ 40 ∔ 1 ∷ [])
+    ∷ gives (holding (2000 ∔ 1 ∷ 4000 ∔ 1 ∷ [])) (walkOf 4096 4088 12288 (framed (20480 ∷ 24576 ∷ []) (0 ∷ []))) (4096 ∷ 20480 ∷ 24576 ∷ [])
+    (4096 ∷ 4096 ∷ 4096 ∷ []) (2 + 1) (0 ∔ 16 ∷ 2000 ∔ 1 ∷ 4000 ∔ 1 ∷ 4088 ∔ 8 ∷ [])
+    ∷ gives (holding (2000 ∔ 1 ∷ 4000 ∔ 1 ∷ [])) (walkOf 4096 4088 12288 (framed [] (4096 ∷ []) ++ entriesOf (20480 ∷ 24576 ∷ [])))
+    (4096 ∷ 20480 ∷ 24576 ∷ []) (4096 ∷ 4096 ∷ 4096 ∷ []) (2 + 3) (2000 ∔ 1 ∷ 4000 ∔ 1 ∷ 4088 ∔ 24 ∷ [])
     ∷ []
 
 -- all of them
 unfoldable pub marked : List Marked
-unfolding onePage twoPages oneList twoLists wrongMultiples recordsKept limitsMet inOrder longScratch replayed
-marked = onePage ++ twoPages ++ oneList ++ twoLists ++ wrongMultiples ++ recordsKept ++ limitsMet ++ inOrder ++ longScratch ++ replayed
+unfolding onePage twoPages oneList twoLists wrongMultiples recordsKept limitsMet inOrder longScratch replayed recordsLooked
+marked =
+    onePage ++ twoPages ++ oneList ++ twoLists ++ wrongMultiples ++ recordsKept ++ limitsMet ++ inOrder ++ longScratch ++ replayed ++ recordsLooked
 
 -- every marked walk comes to what it must
 abbrev pub MarkedWalks : Type 0

@@ -125,16 +125,16 @@ module _ (words store window : List ℕ) (c a : ℕ) (bytes : List ℕ) where
             ∙ records-barred s (length store) (length window) n c a n e _ (full .bytes) (full .many)))
 
         -- the span is held, its bytes are put over what was held before, and they are in the window
-        module _ (new at : ℕ) (H : Held words store c a n a bytes new at words′ store′) where
+        module _ (new at look : ℕ) (H : Held words store c a n a bytes new at look words′ store′) where
           pub placed : at + n ≤ heldLimit
-          placed = span-placed words store c a n a bytes may-hold new at words′ store′ H
+          placed = span-placed words store c a n a bytes may-hold new at look words′ store′ H
 
           -- put over what was held, or there already, since all is new
           stands : (b : Bool) → leb n new ≡ b → cond b store′ (overwrite store′ (partStart c + at) bytes) ≡ packed store c (joined rs a n) value
           stands true e =
               let all : n ≤ fresh rs a n = omega (arith, leb-true n new e, H .counted) in
               H .stored ∙ ap (packed store c (joined rs a n)) (sym (written-new rs (location s c) store a bytes (none-held rs a n all)))
-          stands false e = span-writes words store c a n a bytes may-hold new at words′ store′ H bytes refl
+          stands false e = span-writes words store c a n a bytes may-hold new at look words′ store′ H bytes refl
 
           pub span-written :
               (store″ window′ : List ℕ) → store″ ≡ cond (leb n new) store′ (overwrite store′ (partStart c + at) bytes) → window′ ≡ overwrite window a bytes

@@ -50,7 +50,11 @@ fn write_span(
     match holding {
         Holding::Bytes => OwnWriteAnswer::Refused(Refusal::TooManyBytes),
         Holding::Records => OwnWriteAnswer::Refused(Refusal::TooManyRecords),
-        Holding::Span { fresh, place } => {
+        Holding::Span {
+            fresh,
+            place,
+            looked: _,
+        } => {
             put_over(store, command, place, bytes, fresh);
             octets::copy_at(window, address, bytes);
             OwnWriteAnswer::Done { written, fresh }

@@ -2,25 +2,28 @@
 -- of a page.
 use Prim.Native.Nat.{ℕ, zero, suc, _-_, _%_, _<_, _≤_}
 use native.Mathlib.Omega.{arith}
-use mathlib.Core.Path.{_≡_, refl, sym, _∙_}
-use mathlib.Core.List.{List, [], _∷_}
+use mathlib.Core.Path.{_≡_, refl, ap, sym, _∙_}
+use mathlib.Core.List.{List, [], _∷_, map}
 use mathlib.Core.Bool.{Bool, true, false, false≢true, _||_}
 use lib.Dec.{ltb, eqb}
 use lib.ListN.{length, take, length-append, length-take}
 use borrow.Author.Tests.{ltb-true, ltb-false, eqb-true, eqb-false, eq-eqb}
 use Rattle.octets.specs.Lists.{all}
 use Rattle.octets.proofs.Lists.{both}
-use Rattle.state.specs.Verdict.{replied, accepted, Check}
+use Rattle.state.specs.Verdict.{replied, accepted, lookedIn, Check}
 use Rattle.state.proofs.Verdict.{none-applies}
-use Rattle.cache.specs.Runs.{Machine}
+use Rattle.cache.specs.Runs.{Machine, says, along, ran}
 use Rattle.prp.specs.Pages.{Walk, pageSize, spansMost, transferMost, touched, needed, fit, firstCount, secondCount}
 use Rattle.prp.specs.Entries.{Got, entriesIn, wrongMultiple, judged, pageSays}
-use Rattle.prp.specs.Walk.{Asks, gotOne, gotTwo, entriesOne, behindSays, pageEntries, answerBy, asksOf, walkChecks, walkSays}
-use Rattle.prp.proofs.Answers.{then-second, then-goes-on}
+use Rattle.prp.specs.Walk.{Asks, gotOne, gotTwo, entriesOne, behindSays, pageEntries, lookedBehind, answerBy, fetchesBy, asksOf, walkChecks}
+use Rattle.prp.specs.Walk.{walkSays, walkFetches}
+use Rattle.prp.specs.Claims.{sum}
+use Rattle.prp.proofs.Answers.{then-second}
 use Rattle.prp.proofs.Pages.{fit-some, two-pages, one-page}
 use Rattle.prp.proofs.Reading.{length-entries}
-use Rattle.prp.proofs.Listed.{entries-none, entries-one, entries-two}
-use Rattle.prp.proofs.Listing.{Listing, noList, onePage, twoPages, listing, checks-taken, first-taken, behind-taken, second-taken, page-one, page-two}
+use Rattle.prp.proofs.Listed.{entries-none, entries-one, entries-two, looked-none, looked-lists, lists-one, lists-two}
+use Rattle.prp.proofs.Listing.{Listing, noList, onePage, twoPages, listing, all-taken}
+use Rattle.prp.proofs.Listing.{checks-taken, first-taken, behind-taken, second-taken, page-one, page-two}
 use Rattle.prp.proofs.Entries.{aligned, entries-aligned, entry-judged, aligned-take, aligned-append}
 
 -- as many entries as are needed, each a multiple of a page
@@ -46,7 +49,7 @@ module _ (asks : Asks) (w : Walk) where
   entries-behind checks taken = go (listing asks w checks taken)
     where
       go : Listing asks w checks → Pages (needed w) (pageEntries asks w)
-      go (noList e) =
+      go (noList e none) =
           rw (entries-none asks w e)
           (by-second (needed w) (ltb-false _ _ e) (eqb (needed w) 0) refl (rw (e, behindSays) at (behind-taken asks w checks taken)))
       go (onePage e fits made) =
@@ -86,7 +89,7 @@ pub record Walked (m : Machine) (w : Walk) : Type 0 where
   pub admits : Admitted w
   pub first : w .prp1 % 4 ≡ 0
   pub entries : Pages (needed w) (pageEntries (asksOf m) w)
-  pub reply : walkSays m w ≡ replied (touched w ∷ [])
+  pub reply : walkSays m w ≡ replied (touched w ∷ sum (map lookedIn (along says m (walkFetches m w))) ∷ [])
 
 module _ (m : Machine) (w : Walk) where
   pub admitted : accepted (judged (walkChecks m w)) ≡ true → Admitted w
@@ -102,6 +105,23 @@ module _ (m : Machine) (w : Walk) where
         lengthRoom = ltb-false _ _ (or-right (scratchShort || ltb (length (w .addressList)) spansMost) _ room);
       }
 
+  -- what the list fetches looked at, each where the one before it left the machine
+  looked-sum : accepted (walkSays m w) ≡ true → lookedBehind (asksOf m) w ≡ sum (map lookedIn (along says m (walkFetches m w)))
+  unfolding walkSays walkFetches along ran sum
+  looked-sum e = go (listing asks w checks e)
+    where
+      asks : Asks
+      asks = asksOf m
+
+      checks : List Check
+      checks = walkChecks m w
+
+      go : Listing (asksOf m) w (walkChecks m w)
+          → lookedBehind (asksOf m) w ≡ sum (map lookedIn (along says m (fetchesBy (asksOf m) w (walkChecks m w))))
+      go (noList e none) = rw none (looked-none (asksOf m) w e)
+      go (onePage e fits made) = rw made (looked-lists (asksOf m) w e ∙ lists-one (asksOf m) w fits ∙ omega arith)
+      go (twoPages e more made) = rw made (looked-lists (asksOf m) w e ∙ lists-two (asksOf m) w more ∙ omega arith)
+
   pub walked : accepted (walkSays m w) ≡ true → Walked m w
   unfolding walkSays answerBy
   walked e =
@@ -112,7 +132,6 @@ module _ (m : Machine) (w : Walk) where
         first = entry-judged 4 (w .prp1) (first-taken asks w checks e);
         entries = entries-behind asks w checks e;
         reply =
-            then-goes-on _ (judged checks) (checks-taken asks w checks e)
-            ∙ then-goes-on _ (judged (wrongMultiple 4 (w .prp1) ∷ [])) (first-taken asks w checks e)
-            ∙ then-goes-on _ (behindSays asks w) (behind-taken asks w checks e);
+            all-taken asks w checks (checks-taken asks w checks e) (first-taken asks w checks e) (behind-taken asks w checks e)
+            ∙ ap (λ (k : ℕ). replied (touched w ∷ k ∷ [])) (looked-sum e);
       }

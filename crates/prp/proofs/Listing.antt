@@ -1,5 +1,5 @@
 -- The list fetches that a walk makes, and the three kinds of accepted walks: one reads no list, one reads one list page, and one reads two.
-use mathlib.Core.Path.{_≡_, refl, ap₂}
+use mathlib.Core.Path.{_≡_, refl, ap₂, _∙_}
 use mathlib.Core.List.{List, [], _∷_}
 use mathlib.Core.Bool.{Bool, true, false, cond, _&&_}
 use Rattle.octets.specs.Lists.{all}
@@ -8,12 +8,12 @@ use Rattle.state.specs.Verdict.{replied, accepted, Check}
 use Rattle.cache.specs.Runs.{Call}
 use Rattle.prp.specs.Pages.{Walk, touched, withList, chained, firstCount, secondCount}
 use Rattle.prp.specs.Entries.{judged, wrongMultiple, _then_, pageSays}
-use Rattle.prp.specs.Walk.{Asks, listOne, listTwo, gotOne, gotTwo, listsSay, behindSays, answerBy, makesOne, makesTwo, fetchesBy}
-use Rattle.prp.proofs.Answers.{then-first, then-second}
+use Rattle.prp.specs.Walk.{Asks, listOne, listTwo, gotOne, gotTwo, listsSay, behindSays, lookedBehind, answerBy, makesOne, makesTwo, fetchesBy}
+use Rattle.prp.proofs.Answers.{then-first, then-second, then-goes-on}
 use Rattle.prp.proofs.Said.{made-one}
 
 pub data Listing (asks : Asks) (w : Walk) (checks : List Check) : Type 0 where
-  noList : withList w ≡ false → Listing asks w checks
+  noList : withList w ≡ false → fetchesBy asks w checks ≡ [] → Listing asks w checks
   onePage : withList w ≡ true → chained w ≡ false → fetchesBy asks w checks ≡ listOne asks w ∷ [] → Listing asks w checks
   twoPages : withList w ≡ true → chained w ≡ true → fetchesBy asks w checks ≡ listOne asks w ∷ listTwo asks w ∷ [] → Listing asks w checks
 
@@ -40,13 +40,21 @@ module _ (asks : Asks) (w : Walk) (checks : List Check) where
       go true false = both one refl
       go false d = refl
 
+  -- a walk whose parts are all accepted is
+  pub all-taken : accepted (judged checks) ≡ true → accepted (judged (wrongMultiple 4 (w .prp1) ∷ [])) ≡ true → accepted (behindSays asks w) ≡ true
+      → answerBy asks w checks ≡ replied (touched w ∷ lookedBehind asks w ∷ [])
+  unfolding answerBy
+  all-taken fine fine1 fine2 =
+      then-goes-on _ (judged checks) fine ∙ then-goes-on _ (judged (wrongMultiple 4 (w .prp1) ∷ [])) fine1 ∙ then-goes-on _ (behindSays asks w) fine2
+
   -- an accepted walk, part by part
   module _ (taken : accepted (answerBy asks w checks) ≡ true) where
     pub checks-taken : accepted (judged checks) ≡ true
     unfolding answerBy
     checks-taken = then-first _ (judged checks) taken
 
-    past-checks : accepted (judged (wrongMultiple 4 (w .prp1) ∷ []) then behindSays asks w then replied (touched w ∷ [])) ≡ true
+    past-checks :
+        accepted (judged (wrongMultiple 4 (w .prp1) ∷ []) then behindSays asks w then replied (touched w ∷ lookedBehind asks w ∷ [])) ≡ true
     unfolding answerBy
     past-checks = then-second _ (judged checks) taken
 
@@ -96,4 +104,4 @@ module _ (asks : Asks) (w : Walk) (checks : List Check) where
       where
         go : (b : Bool) → withList w ≡ b → Listing asks w checks
         go true e = listing-of e (chained w) refl
-        go false e = noList e
+        go false e = noList e (fetches-made false _ (rw e) refl)

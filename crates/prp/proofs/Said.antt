@@ -10,7 +10,7 @@ use Rattle.state.specs.Verdict.{Reply, refused, replied, accepted, Check}
 use Rattle.state.proofs.Verdict.{verdict-passes}
 use Rattle.prp.specs.Pages.{Walk, pageSize, needed, withList, chained, firstCount, secondCount, touched}
 use Rattle.prp.specs.Entries.{Got, isMultiple, wrongMultiple, judged, _then_, entriesIn, pageSays}
-use Rattle.prp.specs.Walk.{Asks, gotOne, gotTwo, listsSay, behindSays, answerBy, makesOne, makesTwo}
+use Rattle.prp.specs.Walk.{Asks, gotOne, gotTwo, listsSay, behindSays, lookedBehind, answerBy, makesOne, makesTwo}
 use Rattle.prp.proofs.Answers.{then-goes-on}
 use Rattle.prp.proofs.Entries.{judged-all}
 
@@ -78,4 +78,4 @@ module _ (Q : Reply → Type 0) (gives : (ns : List ℕ) → Q (replied ns)) (mi
     walk-said =
         then-said (judged checks) _ first λ fine.
         then-said (judged (wrongMultiple 4 (w .prp1) ∷ [])) _ (judged-said 4 (w .prp1 ∷ [])) λ fine1.
-        then-said (behindSays asks w) _ (behind-said fine fine1) λ _. gives (touched w ∷ [])
+        then-said (behindSays asks w) _ (behind-said fine fine1) λ _. gives (touched w ∷ lookedBehind asks w ∷ [])

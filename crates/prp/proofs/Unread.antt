@@ -5,11 +5,11 @@ use mathlib.Core.List.{List, []}
 use Rattle.state.specs.Verdict.{replied, Check, verdict}
 use Rattle.cache.specs.Runs.{Machine}
 use Rattle.prp.specs.Pages.{Walk, needed, spanLengths}
-use Rattle.prp.specs.Walk.{Asks, behindSays, pageEntries, answerBy, fetchesBy, asksOf, walkSays, walkFetches, walkScratch, walkAddresses, walkLengths}
+use Rattle.prp.specs.Walk.{Asks, behindSays, pageEntries, lookedBehind, answerBy, fetchesBy, asksOf, walkSays, walkFetches, walkScratch, walkAddresses, walkLengths}
 use Rattle.prp.specs.Claims.{withPrp2, SecondUnread}
 
 module _ (asks : Asks) (w : Walk) (none : needed w ≡ 0) where
-  -- nothing is said of PRP2, no entry stands behind PRP1, and no list is fetched
+  -- nothing is said of PRP2, no entry stands behind PRP1, no record is looked at, and no list is fetched
   nothing-said : behindSays asks w ≡ replied []
   unfolding verdict
   nothing-said = rw (none, behindSays) (rw none)
@@ -17,6 +17,10 @@ module _ (asks : Asks) (w : Walk) (none : needed w ≡ 0) where
   no-entries : pageEntries asks w ≡ []
   unfolding pageEntries
   no-entries = rw (none, pageEntries) (rw none)
+
+  none-looked : lookedBehind asks w ≡ 0
+  unfolding lookedBehind
+  none-looked = rw (none, lookedBehind)
 
   no-fetches : (checks : List Check) → fetchesBy asks w checks ≡ []
   unfolding fetchesBy
@@ -26,7 +30,13 @@ module _ (asks : Asks) (w : Walk) (none : needed w ≡ 0) where
 module _ (m : Machine) (w : Walk) (x : ℕ) (none : needed w ≡ 0) where
   same-answer : walkSays m w ≡ walkSays m (withPrp2 x w)
   unfolding walkSays answerBy
-  same-answer = rw (nothing-said (asksOf m) w none, nothing-said (asksOf m) (withPrp2 x w) none)
+  same-answer =
+      rw (
+        nothing-said (asksOf m) w none,
+        nothing-said (asksOf m) (withPrp2 x w) none,
+        none-looked (asksOf m) w none,
+        none-looked (asksOf m) (withPrp2 x w) none,
+      )
 
   same-fetches : walkFetches m w ≡ walkFetches m (withPrp2 x w)
   unfolding walkFetches

@@ -1,12 +1,13 @@
--- The claims about one page walk, whatever state and store it is given (request F-5 of 02, the agreed changes; docs/RULES.md has its rules).
+-- The claims about one page walk, whatever state and store it is given (requests F-5 and F-6 of 02, the agreed changes; docs/RULES.md has their
+-- rules).
 use Prim.Native.Nat.{ℕ, suc, _+_, _%_, _<_, _≤_}
 use mathlib.Core.Path.{_≡_}
-use mathlib.Core.List.{List, [], _∷_}
+use mathlib.Core.List.{List, [], _∷_, map}
 use mathlib.Core.Bool.{true, false, cond}
 use mathlib.Core.Logic.{_↔_}
 use lib.ListN.{length, take, drop, getD, replicate}
-use Rattle.state.specs.Verdict.{replied, accepted, keepsTo}
-use Rattle.cache.specs.Runs.{Call, Machine, says, after, ran}
+use Rattle.state.specs.Verdict.{replied, accepted, lookedIn, keepsTo}
+use Rattle.cache.specs.Runs.{Call, Machine, says, after, along, ran}
 use Rattle.prp.specs.Pages.{Walk, pageSize, spansMost, touched, needed, lengthIn}
 use Rattle.prp.specs.Entries.{judged}
 use Rattle.prp.specs.Walk.{walkChecks, walkSays, walkFetches, walkAfter, walkScratch, walkAddresses, walkLengths}
@@ -24,8 +25,9 @@ module _ (m : Machine) (w : Walk) where
   lengthAt i = getD (walkLengths m w) i 0
 
   pub record Spans : Type 0 where
-    -- the reply is their number, 1 to 17: one for each page in which bytes of the transfer lie
-    pub reply : walkSays m w ≡ replied (touched w ∷ [])
+    -- the reply is their number, 1 to 17: one for each page in which bytes of the transfer lie; and how many records its list fetches replied that
+    -- they looked at, added up (F-6)
+    pub reply : walkSays m w ≡ replied (touched w ∷ sum (map lookedIn (along says m (walkFetches m w))) ∷ [])
     pub some : 0 < touched w
     pub room : touched w ≤ spansMost
     pub pages : (i : ℕ) → (i < touched w) ↔ (0 < lengthIn w i)

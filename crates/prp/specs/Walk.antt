@@ -1,6 +1,6 @@
--- The page walk: its answer, the list fetches that it makes, and what it leaves (request F-5 of 02, the agreed changes; docs/RULES.md has its
--- rules). What it gets from its list fetches is an argument, so that the same words serve a machine that is run and what is told from the calls.
-use Prim.Native.Nat.{ℕ, _-_}
+-- The page walk: its answer, the list fetches that it makes, and what it leaves (requests F-5 and F-6 of 02, the agreed changes; docs/RULES.md has
+-- their rules). What it gets from its list fetches is an argument, so that the same words serve a machine that is run and what is told from the calls.
+use Prim.Native.Nat.{ℕ, _+_, _-_}
 use mathlib.Core.List.{List, [], _∷_, _++_}
 use mathlib.Core.Bool.{Bool, true, false, cond, _&&_, _||_}
 use lib.Dec.{ltb, eqb}
@@ -8,7 +8,7 @@ use lib.ListN.{length, take, getD, replicate}
 use Rattle.octets.specs.Lists.{overwrite}
 use Rattle.state.specs.declared.refusal.Refusal.the-variants.{TransferOutOfRange, BufferTooShort}
 use Rattle.state.specs.Refusals.{number}
-use Rattle.state.specs.Verdict.{Reply, replied, accepted, Check, _⇒_}
+use Rattle.state.specs.Verdict.{Reply, replied, accepted, lookedIn, Check, _⇒_}
 use Rattle.state.specs.Checks.{commandTooHigh, windowTooLong, storeWrongSize, stateBroken, commandNotOpen}
 use Rattle.cache.specs.Runs.{Call, Machine, says, delivers, ran}
 use Rattle.prp.specs.Pages.{Walk, touched, needed, spanLengths, withList, fit, chained, firstCount, secondCount, pageSize, spansMost, transferMost}
@@ -76,10 +76,18 @@ module _ (asks : Asks) (w : Walk) where
         | false ↦ take (needed w) (w .prp2 ∷ [])
       ]
 
+  -- F-6's sum over the list fetches: how many records those of the list pages that there are looked at; none without a list
+  abbrev pub lookedInLists : ℕ
+  lookedInLists = lookedIn (gotOne .answer) + elim (chained w) [ true ↦ lookedIn (gotTwo .answer) | false ↦ 0 ]
+
+  unfoldable pub lookedBehind : ℕ
+  lookedBehind = elim (withList w) [ true ↦ lookedInLists | false ↦ 0 ]
+
   module _ (checks : List Check) where
-    -- the answer: the checks, then entry by entry from PRP1; the reply is the number of spans
+    -- the answer: the checks, then entry by entry from PRP1; the reply is the number of spans, and that of the records looked at
     unfoldable pub answerBy : Reply
-    answerBy = judged checks then judged (wrongMultiple 4 (w .prp1) ∷ []) then behindSays then replied (touched w ∷ [])
+    answerBy =
+        judged checks then judged (wrongMultiple 4 (w .prp1) ∷ []) then behindSays then replied (touched w ∷ lookedBehind ∷ [])
 
     -- The list fetches that are made, in their order, the last of which may be refused: none before PRP1 and PRP2 are judged, and the second
     -- only if nothing is wrong with the first page.

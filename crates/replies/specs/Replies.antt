@@ -27,8 +27,9 @@ begunOf says = record { status = statusOf says }
 abbrev pub endedOf : Reply → Ended
 endedOf says = record { status = statusOf says; records = member 0 says; bytes = member 1 says }
 
+-- a byte map's fetch says two numbers, so that its third member is 0
 abbrev pub fetchedOf : Reply → Fetched
-fetchedOf says = record { status = statusOf says; fresh = member 0 says; replayed = member 1 says }
+fetchedOf says = record { status = statusOf says; fresh = member 0 says; replayed = member 1 says; «looked_at» = member 2 says }
 
 -- a host write says one number, so that its second member is 0
 abbrev pub writtenOf : Reply → Written
@@ -38,7 +39,7 @@ abbrev pub shownOf : Reply → Shown
 shownOf says = record { status = statusOf says; start = member 0 says; len = member 1 says }
 
 abbrev pub walkedOf : Reply → Walked
-walkedOf says = record { status = statusOf says; spans = member 0 says }
+walkedOf says = record { status = statusOf says; spans = member 0 says; «looked_at» = member 1 says }
 
 -- the reader says the bytes taken up first, and then the numbers of the step
 abbrev pub stepOf : Reply → FrameStep

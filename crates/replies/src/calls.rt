@@ -5,11 +5,16 @@ use state::BeginAnswer;
 use state::EndAnswer;
 use state::FetchAnswer;
 use state::HostWriteAnswer;
+use state::MapFetchAnswer;
 use state::OwnWriteAnswer;
+use state::Refusal;
 use state::ShowAnswer;
 use state::WalkAnswer;
 ghost use mathlib.Core.Path.{_≡_};
-ghost use Rattle.state.specs.Answers.{beginReply, endReply, fetchReply, hostWriteReply, ownWriteReply, showReply, walkReply};
+ghost use mathlib.Core.List.{[], _∷_};
+ghost use Rattle.state.specs.Refusals.{number};
+ghost use Rattle.state.specs.Verdict.{refused, replied};
+ghost use Rattle.state.specs.Answers.{beginReply, endReply, fetchReply, mapFetchReply, hostWriteReply, ownWriteReply, showReply, walkReply};
 ghost use Rattle.replies.specs.Replies.{begunOf, endedOf, fetchedOf, writtenOf, shownOf, walkedOf};
 
 #[repr(C)]
@@ -25,12 +30,13 @@ pub struct Ended {
     pub bytes: usize,
 }
 
-// How many bytes of the span were fresh, and how many were replayed.
+// How many bytes of the span were fresh, how many were replayed, and how many records were looked at, of which a byte map has none.
 #[repr(C)]
 pub struct Fetched {
     pub status: u32,
     pub fresh: usize,
     pub replayed: usize,
+    pub looked_at: usize,
 }
 
 // How many bytes were written; and, of an own write, how many of their addresses were not held before.
@@ -49,11 +55,12 @@ pub struct Shown {
     pub len: u16,
 }
 
-// How many spans a page walk gave.
+// How many spans a page walk gave, and how many records its list fetches looked at.
 #[repr(C)]
 pub struct Walked {
     pub status: u32,
     pub spans: usize,
+    pub looked_at: usize,
 }
 
 pub fn begin_reply(answer: BeginAnswer) -> Begun
@@ -88,16 +95,43 @@ pub fn fetch_reply(answer: FetchAnswer) -> Fetched
     ensures { λ r. ⌜ r ≡ fetchedOf (fetchReply answer) ⌝ }
 {
     match answer {
-        FetchAnswer::Refused(why) => Fetched {
-            status: status(why),
-            fresh: 0,
-            replayed: 0,
-        },
-        FetchAnswer::Done { fresh, replayed } => Fetched {
-            status: OK,
+        FetchAnswer::Refused(why) => fetch_refused(why),
+        FetchAnswer::Done {
             fresh,
             replayed,
-        },
+            looked,
+        } => fetch_done(fresh, replayed, looked),
+    }
+}
+
+pub fn map_fetch_reply(answer: MapFetchAnswer) -> Fetched
+    ensures { λ r. ⌜ r ≡ fetchedOf (mapFetchReply answer) ⌝ }
+{
+    match answer {
+        MapFetchAnswer::Refused(why) => fetch_refused(why),
+        MapFetchAnswer::Done { fresh, replayed } => fetch_done(fresh, replayed, 0),
+    }
+}
+
+fn fetch_done(fresh: usize, replayed: usize, looked_at: usize) -> Fetched
+    ensures { λ r. ⌜ r ≡ fetchedOf (replied (fresh ∷ replayed ∷ «looked_at» ∷ [])) ⌝ }
+{
+    Fetched {
+        status: OK,
+        fresh,
+        replayed,
+        looked_at,
+    }
+}
+
+fn fetch_refused(why: Refusal) -> Fetched
+    ensures { λ r. ⌜ r ≡ fetchedOf (refused (number why)) ⌝ }
+{
+    Fetched {
+        status: status(why),
+        fresh: 0,
+        replayed: 0,
+        looked_at: 0,
     }
 }
 
@@ -159,10 +193,12 @@ pub fn walk_reply(answer: WalkAnswer) -> Walked
         WalkAnswer::Refused(why) => Walked {
             status: status(why),
             spans: 0,
+            looked_at: 0,
         },
-        WalkAnswer::Done(n) => Walked {
+        WalkAnswer::Done { spans, looked } => Walked {
             status: OK,
-            spans: n,
+            spans,
+            looked_at: looked,
         },
     }
 }

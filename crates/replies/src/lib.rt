@@ -13,6 +13,7 @@ pub use calls::Written;
 pub use calls::begin_reply;
 pub use calls::end_reply;
 pub use calls::fetch_reply;
+pub use calls::map_fetch_reply;
 pub use calls::own_write_reply;
 pub use calls::show_reply;
 pub use calls::walk_reply;

@@ -11,7 +11,7 @@ use borrow.Author.Tests.{eq-eqb}
 use Rattle.octets.specs.Lists.{all}
 use Rattle.octets.proofs.Lists.{both}
 use Rattle.state.specs.declared.Record.{Record}
-use Rattle.state.specs.Records.{held, span, total, countFresh, countHeld, keep, lowest, highest, joined}
+use Rattle.state.specs.Records.{held, span, total, countFresh, countHeld, keep, lowest, highest, joined, lookedUpTo, looked}
 use Rattle.state.specs.State.{State, freshState, open-with, withCommand, recordsOf, ascending, commandHolds, holds}
 use Rattle.state.specs.Verdict.{Reply, refused, replied, accepted, verdict}
 use Rattle.state.proofs.Places.{map-read}
@@ -72,8 +72,10 @@ abbrev said : State → (a n : ℕ) → Reply
 said s a n = fetchSays s 32768 (length window) (length dest) 0 a n
 
 -- the three answers of the situation
-three-answers : (answer empty 0 4096 ≡ replied (4096 ∷ 0 ∷ [])) × (answer full 4096 1 ≡ refused 23) × (answer full 0 4096 ≡ replied (0 ∷ 4096 ∷ []))
+three-answers :
+    (answer empty 0 4096 ≡ replied (4096 ∷ 0 ∷ 0 ∷ [])) × (answer full 4096 1 ≡ refused 23) × (answer full 0 4096 ≡ replied (0 ∷ 4096 ∷ 1 ∷ []))
 unfolding window bytesOf dest fetchSays accepted verdict all ascending commandHolds holds total held span countFresh countHeld keep lowest highest joined
+    lookedUpTo looked
 three-answers = (refl, refl, refl)
 
 three-said : (accepted (said empty 0 4096) ≡ true) × (accepted (said full 4096 1) ≡ false) × (accepted (said full 0 4096) ≡ true)
@@ -159,7 +161,7 @@ unknown : (x : ℕ) → known 0 x ≡ none
 unfolding remember memory
 unknown x = refl
 
-fill-taken : answers opened fill ≡ replied (4096 ∷ 0 ∷ [])
+fill-taken : answers opened fill ≡ replied (4096 ∷ 0 ∷ 0 ∷ [])
 fill-taken = answers-so opened empty opened-state opened-size 0 4096 ∙ three-answers .0
 
 fill-accepted : accepted (says opened fill) ≡ true
@@ -198,7 +200,7 @@ past-delivers : delivers filled past-full ≡ []
 unfolding accepted owedBy
 past-delivers = delivers-owed filled (remember known (deedOf true fill)) past-full false past-refused filled-sound
 
-again-taken : answers filled fill ≡ replied (0 ∷ 4096 ∷ [])
+again-taken : answers filled fill ≡ replied (0 ∷ 4096 ∷ 1 ∷ [])
 again-taken = answers-so filled full filled-state filled-size 0 4096 ∙ three-answers .2
 
 again-accepted : accepted (says filled fill) ≡ true
@@ -221,21 +223,21 @@ no-more : (m : Machine) → passes m [] ≡ true
 unfolding passes
 no-more m = refl
 
-again-passes : passes filled (fetches 0 4096 0 4096 whole-record ∷ []) ≡ true
+again-passes : passes filled (fetches 0 4096 0 4096 1 whole-record ∷ []) ≡ true
 unfolding fetches
 again-passes = step filled _ [] again-taken again-delivers (full-records _ again-state) refl (no-more _)
 
-past-passes : passes filled (turnedAway 4096 1 23 whole-record ∷ fetches 0 4096 0 4096 whole-record ∷ []) ≡ true
+past-passes : passes filled (turnedAway 4096 1 23 whole-record ∷ fetches 0 4096 0 4096 1 whole-record ∷ []) ≡ true
 unfolding turnedAway
 past-passes =
-    step filled _ (fetches 0 4096 0 4096 whole-record ∷ []) past-taken past-delivers
+    step filled _ (fetches 0 4096 0 4096 1 whole-record ∷ []) past-taken past-delivers
     (full-records _ (ap (λ (m : Machine). m .state) past-same ∙ filled-state)) refl
-    (subst (λ (m : Machine). passes m (fetches 0 4096 0 4096 whole-record ∷ []) ≡ true) (sym past-same) again-passes)
+    (subst (λ (m : Machine). passes m (fetches 0 4096 0 4096 1 whole-record ∷ []) ≡ true) (sym past-same) again-passes)
 
 fill-passes : passes opened E ≡ true
 unfolding E fetches filled asExpected
 fill-passes =
-    step opened _ (turnedAway 4096 1 23 whole-record ∷ fetches 0 4096 0 4096 whole-record ∷ [])
+    step opened _ (turnedAway 4096 1 23 whole-record ∷ fetches 0 4096 0 4096 1 whole-record ∷ [])
     fill-taken fill-delivers refl refl past-passes
 
 opens-passes : (ts : List Step) → passes opened ts ≡ true → passes (start store) (opens ∷ ts) ≡ true

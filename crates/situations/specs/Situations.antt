@@ -1,5 +1,5 @@
--- The marked situations of 01 (the agreed scope, with requests F-1 and F-3 of 02; docs/RULES.md has their rules), those with a star and K. Each starts
--- with command 0 open, no records, and a window of 16,384 bytes.
+-- The marked situations of 01 (the agreed scope, with requests F-1, F-3 and F-6 of 02; docs/RULES.md has their rules), those with a star and K. Each
+-- starts with command 0 open, no records, and a window of 16,384 bytes. Every accepted fetch says how many records it looks at, too.
 use Prim.Native.Nat.{ℕ, _*_, _%_}
 use mathlib.Core.Path.{_≡_}
 use mathlib.Core.List.{List, [], _∷_, _++_, map}
@@ -36,10 +36,11 @@ unfoldable pub opens : Step
 opens = calls (record { call = begin 0; answer = replied []; bytes = []; records = is []; window = unsaid })
 
 -- command 0 fetches a+n and is given its bytes, or is turned away
-unfoldable pub fetches : (a n fresh replayed : ℕ) → Expected (List Record) → Step
+unfoldable pub fetches : (a n fresh replayed looked : ℕ) → Expected (List Record) → Step
 unfolding bytesOf window dest
-fetches a n fresh replayed rs =
-    calls (record { call = fetch 0 a n dest window; answer = replied (fresh ∷ replayed ∷ []); bytes = bytesOf a n; records = rs; window = unsaid })
+fetches a n fresh replayed looked rs =
+    calls
+    (record { call = fetch 0 a n dest window; answer = replied (fresh ∷ replayed ∷ looked ∷ []); bytes = bytesOf a n; records = rs; window = unsaid })
 
 unfoldable pub turnedAway : (a n number : ℕ) → Expected (List Record) → Step
 unfolding window dest
@@ -47,35 +48,36 @@ turnedAway a n number rs = calls (record { call = fetch 0 a n dest window; answe
 
 unfoldable pub A : List Step
 unfolding fetches
-A = fetches 16 4 4 0 (is (16 ∔ 4 ∷ [])) ∷ fetches 14 8 4 4 (is (14 ∔ 8 ∷ [])) ∷ []
+A = fetches 16 4 4 0 0 (is (16 ∔ 4 ∷ [])) ∷ fetches 14 8 4 4 1 (is (14 ∔ 8 ∷ [])) ∷ []
 
 -- F-1: one record after the second fetch
 unfoldable pub B : List Step
 unfolding fetches
-B = fetches 0 4 4 0 unsaid ∷ fetches 4 4 4 0 (is (0 ∔ 8 ∷ [])) ∷ fetches 2 4 0 4 (is (0 ∔ 8 ∷ [])) ∷ []
+B = fetches 0 4 4 0 0 unsaid ∷ fetches 4 4 4 0 1 (is (0 ∔ 8 ∷ [])) ∷ fetches 2 4 0 4 1 (is (0 ∔ 8 ∷ [])) ∷ []
 
 unfoldable pub C : List Step
 unfolding fetches
-C = fetches 16384 0 0 0 (is []) ∷ []
+C = fetches 16384 0 0 0 0 (is []) ∷ []
 
 unfoldable pub D : List Step
 unfolding fetches turnedAway
-D = fetches 16383 1 1 0 unsaid ∷ turnedAway 16384 1 9 (is (16383 ∔ 1 ∷ [])) ∷ []
+D = fetches 16383 1 1 0 0 unsaid ∷ turnedAway 16384 1 9 (is (16383 ∔ 1 ∷ [])) ∷ []
 
 unfoldable pub E : List Step
 unfolding fetches turnedAway
-E = fetches 0 4096 4096 0 unsaid ∷ turnedAway 4096 1 23 (is (0 ∔ 4096 ∷ [])) ∷ fetches 0 4096 0 4096 (is (0 ∔ 4096 ∷ [])) ∷ []
+E = fetches 0 4096 4096 0 0 unsaid ∷ turnedAway 4096 1 23 (is (0 ∔ 4096 ∷ [])) ∷ fetches 0 4096 0 4096 1 (is (0 ∔ 4096 ∷ [])) ∷ []
 
 -- the records at the even addresses from 2 × i on, n of them
 evens : ℕ → ℕ → List Record
 unfolding span
 evens i n = map (λ k. (2 * k) ∔ 1) (span i n)
 
+-- a fetch behind all records looks at each of them; the last one at the two that it joins, and at the next, which ends the search
 unfoldable pub F : List Step
 unfolding fetches turnedAway evens span
 F =
-    map (λ k. fetches (2 * k) 1 1 0 unsaid) (span 0 64)
-    ++ turnedAway 128 1 24 (is (evens 0 64)) ∷ fetches 0 3 1 2 (is (0 ∔ 3 ∷ evens 2 62)) ∷ []
+    map (λ k. fetches (2 * k) 1 1 0 k unsaid) (span 0 64)
+    ++ turnedAway 128 1 24 (is (evens 0 64)) ∷ fetches 0 3 1 2 3 (is (0 ∔ 3 ∷ evens 2 62)) ∷ []
 
 unfoldable pub G : List Step
 G = calls (record { call = begin 0; answer = refused 22; bytes = []; records = is []; window = unsaid }) ∷ []
@@ -98,24 +100,24 @@ written = bytesOf 0 16 ++ 201 ∷ 202 ∷ bytesOf 18 16366
 unfoldable pub J : List Step
 unfolding fetches bytesOf window dest written
 J =
-    fetches 16 2 2 0 (is (16 ∔ 2 ∷ []))
+    fetches 16 2 2 0 0 (is (16 ∔ 2 ∷ []))
     ∷ calls
     (record { call = ownWrite 0 16 (201 ∷ 202 ∷ []) window; answer = replied (2 ∷ 0 ∷ []); bytes = []; records = is (16 ∔ 2 ∷ []); window = is written })
-    ∷ calls (record { call = fetch 0 16 2 dest written; answer = replied (0 ∷ 2 ∷ []); bytes = 201 ∷ 202 ∷ []; records = is (16 ∔ 2 ∷ []); window = unsaid })
-    ∷ calls (record { call = fetch 0 16 2 dest window; answer = replied (0 ∷ 2 ∷ []); bytes = 201 ∷ 202 ∷ []; records = is (16 ∔ 2 ∷ []); window = unsaid })
+    ∷ calls (record { call = fetch 0 16 2 dest written; answer = replied (0 ∷ 2 ∷ 1 ∷ []); bytes = 201 ∷ 202 ∷ []; records = is (16 ∔ 2 ∷ []); window = unsaid })
+    ∷ calls (record { call = fetch 0 16 2 dest window; answer = replied (0 ∷ 2 ∷ 1 ∷ []); bytes = 201 ∷ 202 ∷ []; records = is (16 ∔ 2 ∷ []); window = unsaid })
     ∷ calls (record { call = begin 1; answer = replied []; bytes = []; records = is (16 ∔ 2 ∷ []); window = unsaid })
-    ∷ calls (record { call = fetch 1 16 2 dest window; answer = replied (2 ∷ 0 ∷ []); bytes = 16 ∷ 17 ∷ []; records = is (16 ∔ 2 ∷ []); window = unsaid })
+    ∷ calls (record { call = fetch 1 16 2 dest window; answer = replied (2 ∷ 0 ∷ 0 ∷ []); bytes = 16 ∷ 17 ∷ []; records = is (16 ∔ 2 ∷ []); window = unsaid })
     ∷ []
 
 -- the same two bytes written by the host, the command ended and begun anew: it gets the new ones
 unfoldable pub K : List Step
 unfolding fetches opens bytesOf window dest written
 K =
-    fetches 16 2 2 0 (is (16 ∔ 2 ∷ []))
+    fetches 16 2 2 0 0 (is (16 ∔ 2 ∷ []))
     ∷ calls (record { call = hostWrite 16 (201 ∷ 202 ∷ []) window; answer = replied (2 ∷ []); bytes = []; records = unsaid; window = is written })
     ∷ calls (record { call = end 0; answer = replied (1 ∷ 2 ∷ []); bytes = []; records = is []; window = unsaid })
     ∷ opens
-    ∷ calls (record { call = fetch 0 16 2 dest written; answer = replied (2 ∷ 0 ∷ []); bytes = 201 ∷ 202 ∷ []; records = is (16 ∔ 2 ∷ []); window = unsaid })
+    ∷ calls (record { call = fetch 0 16 2 dest written; answer = replied (2 ∷ 0 ∷ 0 ∷ []); bytes = 201 ∷ 202 ∷ []; records = is (16 ∔ 2 ∷ []); window = unsaid })
     ∷ []
 
 unfoldable pub situations : List (List Step)

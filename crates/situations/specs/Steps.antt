@@ -8,7 +8,7 @@ use lib.Dec.{eqb}
 use lib.ListN.{length}
 use Rattle.octets.specs.Lists.{all}
 use Rattle.state.specs.declared.Record.{Record}
-use Rattle.state.specs.Records.{held, span, addresses, total, place, countFresh, countHeld, keep, lowest, highest, joined}
+use Rattle.state.specs.Records.{held, span, addresses, total, place, countFresh, countHeld, keep, lowest, highest, joined, lookedUpTo, looked}
 use Rattle.state.specs.State.{State, recordsOf, ascending, commandHolds, holds}
 use Rattle.state.specs.Verdict.{Reply, refused, replied, accepted, verdict}
 use Rattle.cache.specs.Begin.{beginSays, beginState, beginStore}
@@ -130,7 +130,7 @@ asExpected same (is y) x = same y x
 unfoldable pub passes : Machine → List Step → Bool
 unfolding sameNumbers sameAnswer sameRecords asExpected readSays fieldsSay fieldsOf dataSize notZero zeroBroken hostSays hostWindow ownSays
     ownState ownStore ownWindow beginSays beginState beginStore endSays endState endStore fetchSays fetchState fetchStore fetchDest accepted verdict
-    all ascending commandHolds holds total held span countFresh countHeld keep lowest highest joined addresses place
+    all ascending commandHolds holds total held span countFresh countHeld keep lowest highest joined addresses place lookedUpTo looked
 passes m [] = true
 passes m (reads frame answer ∷ ts) = sameAnswer answer (readAnswers frame) && passes m ts
 passes m (calls t ∷ ts) =

@@ -1,7 +1,8 @@
 -- What joining a span gives: the numbers by which 23 and 24 are judged and, where there is room, the records joined.
 use Prim.Native.Nat.{ℕ, zero, suc, _+_, _-_}
 use native.Mathlib.Omega.{arith}
-use mathlib.Core.Path.{sym, subst}
+use mathlib.Core.Path.{refl, sym, subst}
+use Rattle.state.specs.Records.{looked}
 use Rattle.state.specs.State.{recordsIn}
 use Rattle.state.specs.Cut.{Cut}
 use Rattle.state.specs.Join.{meeting, spliced, join, JoinJudged, JoinJoined}
@@ -11,11 +12,16 @@ use Rattle.state.proofs.Entries.{fresh-found, count-found, spliced-join
 use Rattle.state.proofs.Commands.{kept-command}
 
 pub join-judged : JoinJudged
-unfolding join spliced
+unfolding join spliced looked
 join-judged p a zero some whole = absurd (omega arith)
 join-judged p a (suc n) some whole =
     let up = kept-command p whole .up in
-    record { bytes = omega (arith, found (recordsIn p) a n up .held); fresh = fresh-found (recordsIn p) a n up; count = count-found (recordsIn p) a n up }
+    record {
+      bytes = omega (arith, found (recordsIn p) a n up .held);
+      fresh = fresh-found (recordsIn p) a n up;
+      count = count-found (recordsIn p) a n up;
+      looked = refl;
+    }
 
 pub join-joined : JoinJoined
 unfolding join

@@ -11,6 +11,7 @@ pub mod Commands
 pub mod Verdict
 pub mod Walk
 pub mod Search
+pub mod Looked
 pub mod Splice
 pub mod Found
 pub mod Entries

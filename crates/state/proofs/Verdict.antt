@@ -6,10 +6,11 @@ use mathlib.Core.Logic.{_≢_}
 use mathlib.Core.List.{List, [], _∷_, _++_}
 use mathlib.Core.Bool.{Bool, true, false, false≢true, cond, not, _&&_}
 use lib.Dec.{ltb, eqb}
+use lib.ListN.{take}
 use borrow.Author.Tests.{ltb-true, eq-eqb}
 use Rattle.octets.specs.Lists.{all}
 use Rattle.octets.proofs.Lists.{and-left, and-right}
-use Rattle.state.specs.Verdict.{Reply, refused, replied, accepted, Check, _⇒_, verdict}
+use Rattle.state.specs.Verdict.{Reply, refused, replied, accepted, withoutLooked, Check, _⇒_, verdict}
 use Rattle.state.specs.Verdict.{numbers, applying, ascendFrom, minimum, lowestOr, contains, keepsTo}
 
 -- Accepted
@@ -143,3 +144,20 @@ verdict-bars (c ∷ cs) ds ns reply n e = go (c .applies) refl (verdict-bars cs 
     go : (b : Bool) → c .applies ≡ b → (verdict cs (replied ns) ≡ refused n → verdict (cs ++ ds) reply ≡ refused n) → verdict (c ∷ cs ++ ds) reply ≡ refused n
     go true a ih = rw a (rw a at e)
     go false a ih = rw a (ih (rw a at e))
+
+-- An answer without the number of records looked at: the first two numbers of the reply, and a refusal or none as before.
+
+pub verdict-without : (cs : List Check) (ns : List ℕ) → withoutLooked (verdict cs (replied ns)) ≡ verdict cs (replied (take 2 ns))
+unfolding verdict
+verdict-without [] ns = refl
+verdict-without (c ∷ cs) ns = go (c .applies) refl (verdict-without cs ns)
+  where
+    go : (b : Bool) → c .applies ≡ b → withoutLooked (verdict cs (replied ns)) ≡ verdict cs (replied (take 2 ns))
+        → withoutLooked (verdict (c ∷ cs) (replied ns)) ≡ verdict (c ∷ cs) (replied (take 2 ns))
+    go true e rest = rw e
+    go false e rest = rw e rest
+
+pub accepted-without : (r : Reply) → accepted (withoutLooked r) ≡ accepted r
+unfolding accepted
+accepted-without (refused n) = refl
+accepted-without (replied ns) = refl

@@ -1,11 +1,11 @@
 -- The rules of records on small numbers. The first three joins are those of situations A and B of 01 (the agreed scope, with request F-1
 -- of 02; docs/RULES.md has their rules).
-use Prim.Native.Nat.{ℕ}
+use Prim.Native.Nat.{ℕ, _-_}
 use mathlib.Core.Path.{_≡_, refl}
-use mathlib.Core.List.{[], _∷_}
+use mathlib.Core.List.{[], _∷_, map}
 use mathlib.Core.Bool.{true, false}
 use Rattle.state.specs.declared.Record.{Record}
-use Rattle.state.specs.Records.{held, span, addresses, total, place, countFresh, fresh, countHeld, replayed, keep, lowest, highest, joined}
+use Rattle.state.specs.Records.{held, span, addresses, total, place, countFresh, fresh, countHeld, replayed, keep, lowest, highest, joined, lookedUpTo, looked}
 use Rattle.state.specs.State.{ascending}
 use Rattle.state.specs.Runs.{inFront, runsFrom}
 
@@ -52,6 +52,16 @@ two-fresh = refl
 four-replayed : replayed (4 at 16 ∷ []) 15 6 ≡ 4
 unfolding countHeld span held
 four-replayed = refl
+
+-- F-6: of four records a fetch below the first looks at one, which ends the search; one that ends where the third starts passes it and looks at the
+-- fourth; one behind them all looks at all four; and one of no bytes at none
+some-looked : map (λ e. looked (1 at 2 ∷ 1 at 4 ∷ 1 at 6 ∷ 1 at 8 ∷ []) (e - 1) 1) (1 ∷ 6 ∷ 20 ∷ []) ≡ 1 ∷ 4 ∷ 4 ∷ []
+unfolding looked lookedUpTo
+some-looked = refl
+
+none-looked : looked (1 at 2 ∷ 1 at 4 ∷ []) 4 0 ≡ 0
+unfolding looked
+none-looked = refl
 
 packed-order : addresses (2 at 10 ∷ 3 at 20 ∷ []) ≡ 10 ∷ 11 ∷ 20 ∷ 21 ∷ 22 ∷ []
 unfolding addresses span

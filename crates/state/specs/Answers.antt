@@ -4,6 +4,8 @@ use Rattle.state.specs.declared.answer.BeginAnswer.{BeginAnswer}
 use Rattle.state.specs.declared.answer.BeginAnswer.the-variants as begin
 use Rattle.state.specs.declared.answer.FetchAnswer.{FetchAnswer}
 use Rattle.state.specs.declared.answer.FetchAnswer.the-variants as fetch
+use Rattle.state.specs.declared.answer.MapFetchAnswer.{MapFetchAnswer}
+use Rattle.state.specs.declared.answer.MapFetchAnswer.the-variants as mapFetch
 use Rattle.state.specs.declared.answer.EndAnswer.{EndAnswer}
 use Rattle.state.specs.declared.answer.EndAnswer.the-variants as end
 use Rattle.state.specs.declared.answer.OwnWriteAnswer.{OwnWriteAnswer}
@@ -22,8 +24,12 @@ beginReply begin.Done = replied []
 beginReply (begin.Refused r) = refused (number r)
 
 abbrev pub fetchReply : FetchAnswer → Reply
-fetchReply (fetch.Done fresh replayed) = replied (fresh ∷ replayed ∷ [])
+fetchReply (fetch.Done fresh replayed looked) = replied (fresh ∷ replayed ∷ looked ∷ [])
 fetchReply (fetch.Refused r) = refused (number r)
+
+abbrev pub mapFetchReply : MapFetchAnswer → Reply
+mapFetchReply (mapFetch.Done fresh replayed) = replied (fresh ∷ replayed ∷ [])
+mapFetchReply (mapFetch.Refused r) = refused (number r)
 
 abbrev pub endReply : EndAnswer → Reply
 endReply (end.Done records bytes) = replied (records ∷ bytes ∷ [])
@@ -42,5 +48,5 @@ showReply (show.Record start len) = replied (start ∷ len ∷ [])
 showReply (show.Refused r) = refused (number r)
 
 abbrev pub walkReply : WalkAnswer → Reply
-walkReply (walk.Done spans) = replied (spans ∷ [])
+walkReply (walk.Done spans looked) = replied (spans ∷ looked ∷ [])
 walkReply (walk.Refused r) = refused (number r)

@@ -1,6 +1,6 @@
--- The claims about records: what sharing and touching are, what joining a span gives, what the search finds and where held bytes stand (01,
--- the agreed scope, with request F-1 of 02, the agreed changes; docs/RULES.md has their rules).
-use Prim.Native.Nat.{ℕ, _+_, _-_, _≤_, _<_}
+-- The claims about records: what sharing and touching are, what joining a span gives, what the search finds, how many records it looks at, and
+-- where held bytes stand (01, the agreed scope, with requests F-1 and F-6 of 02, the agreed changes; docs/RULES.md has their rules).
+use Prim.Native.Nat.{ℕ, suc, _+_, _-_, _≤_, _<_, min}
 use mathlib.Core.Path.{_≡_}
 use mathlib.Core.List.{List, _∷_, _++_}
 use mathlib.Core.Bool.{Bool, true, false, _||_}
@@ -10,7 +10,7 @@ use Rattle.state.specs.declared.Record.{Record}
 use Rattle.state.specs.declared.Meeting.{Meeting}
 use Rattle.state.specs.Limits.{windowLimit}
 use Rattle.state.specs.Records.{past, inSpan, held, addresses, total, place, fresh, replayed, keep, shares, touches}
-use Rattle.state.specs.Records.{meets, earlier, later, lowest, highest, union, joined}
+use Rattle.state.specs.Records.{meets, earlier, later, lowest, highest, union, joined, looked, startingUpTo}
 use Rattle.state.specs.State.{State, recordsOf, ascending, holds}
 use Rattle.state.specs.Runs.{runs}
 use Rattle.state.specs.Join.{meeting, replaced}
@@ -111,6 +111,19 @@ abbrev pub SearchJoins : Type 0
 SearchJoins =
     (rs : List Record) (a n : ℕ) → ascending 0 rs ≡ true → 0 < n
     → let m = meeting rs a (a + n) in (joined rs a n ≡ replaced rs m) × (fresh rs a n + m .held ≡ m .high - m .low)
+
+-- F-6's bound, of any records: a fetch looks at no more than one beyond those that start at or below the end of its span.
+abbrev pub LookedBound : Type 0
+LookedBound = (rs : List Record) (a n : ℕ) → looked rs a n ≤ suc (startingUpTo (a + n) rs)
+
+-- Of records that keep to the rules the number itself: a fetch of a byte or more looks at all that start at or below the end of its span, and at
+-- the next one if there is one; a fetch of no bytes looks at none.
+pub record Looks (rs : List Record) (a n : ℕ) : Type 0 where
+  pub some : 0 < n → looked rs a n ≡ min (suc (startingUpTo (a + n) rs)) (length rs)
+  pub none : n ≡ 0 → looked rs a n ≡ 0
+
+abbrev pub LookedExactly : Type 0
+LookedExactly = (rs : List Record) (a n : ℕ) → ascending 0 rs ≡ true → Looks rs a n
 
 -- A held address has a place among the held bytes, and stands there: of the addresses in the order in which their bytes are packed, it is the
 -- one at the number that `place` gives. So a byte is read where it was put.

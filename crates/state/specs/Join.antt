@@ -10,7 +10,7 @@ use lib.ListN.{length, take, drop, getD}
 use Rattle.state.specs.declared.Record.{Record}
 use Rattle.state.specs.declared.Meeting.{Meeting}
 use Rattle.state.specs.Limits.{recordLimit, heldLimit, windowLimit}
-use Rattle.state.specs.Records.{past, held, span, addresses, total, place, fresh, joined}
+use Rattle.state.specs.Records.{past, held, span, addresses, total, place, fresh, joined, lookedUpTo, looked}
 use Rattle.state.specs.State.{CommandState, noRecord, open-with, recordsIn, ascending, commandHolds}
 use Rattle.state.specs.Cut.{Cut}
 
@@ -63,10 +63,11 @@ spliced p m =
       records = take end (map (entryAfter (p .records) m) (span 0 recordLimit)) ++ drop end (p .records);
     }
 
--- what joining a span gives: how it met the records, how many of its bytes are fresh, where its first address stands among the
--- packed bytes, and the command with the records joined
+-- what joining a span gives: how it met the records, how many of them the search looked at, how many of its bytes are fresh, where its first
+-- address stands among the packed bytes, and the command with the records joined
 pub record Join : Type 0 where
   pub meeting : Meeting
+  pub looked : ℕ
   pub fresh : ℕ
   pub place : ℕ
   pub command : CommandState
@@ -74,7 +75,13 @@ pub record Join : Type 0 where
 unfoldable pub join : CommandState → (a e : ℕ) → Join
 join p a e =
     let m = meeting (recordsIn p) a e in
-    record { meeting = m; fresh = m .high - m .low - m .held; place = m .below + min (a - m .low) windowLimit; command = spliced p m }
+    record {
+      meeting = m;
+      looked = lookedUpTo e (recordsIn p);
+      fresh = m .high - m .low - m .held;
+      place = m .below + min (a - m .low) windowLimit;
+      command = spliced p m;
+    }
 
 -- the records with the union in the place of those that were met
 abbrev pub replaced : List Record → Meeting → List Record
@@ -90,11 +97,13 @@ pub record Room (p : CommandState) (a n : ℕ) : Type 0 where
   pub few : length (joined (recordsIn p) a n) ≤ recordLimit
 
 -- What join gives of a command that holds together, by which 23 and 24 are judged: how many bytes the records up to the last that
--- is met hold, the fresh count of 01 (the agreed scope; docs/RULES.md has its rules), and the number of records after joining.
+-- is met hold, the fresh count of 01 (the agreed scope; docs/RULES.md has its rules), and the number of records after joining; and F-6's number
+-- of records looked at.
 pub record Judged (p : CommandState) (a n : ℕ) (r : Join) : Type 0 where
   pub bytes : r .meeting .below + r .meeting .held ≡ total (take (r .meeting .last) (recordsIn p))
   pub fresh : r .fresh ≡ fresh (recordsIn p) a n
   pub count : r .command .count ≡ length (joined (recordsIn p) a n)
+  pub looked : r .looked ≡ looked (recordsIn p) a n
 
 -- And where there is room: the records joined, the place of the span's first address among the packed bytes, and how the records lay
 -- to the one that was joined.

@@ -1,10 +1,11 @@
 -- The records of one command: which addresses they hold, where the held bytes stand, and what a span that is fetched or written makes of them
--- (01, the agreed scope, "The book and the store" and the rule of fetch, with requests F-1 and F-3 of 02, the agreed changes; docs/RULES.md has
--- their rules).
+-- (01, the agreed scope, "The book and the store" and the rule of fetch, with requests F-1, F-3 and F-6 of 02, the agreed changes; docs/RULES.md
+-- has their rules).
 use Prim.Native.Nat.{ℕ, zero, suc, _+_, _-_, min, max}
 use mathlib.Core.List.{List, [], _∷_, _++_}
 use mathlib.Core.Bool.{Bool, false, cond, _&&_, _||_}
 use lib.Dec.{ltb, leb, eqb}
+use lib.ListN.{length}
 use Rattle.state.specs.declared.Record.{Record}
 
 -- the address after a record
@@ -99,3 +100,18 @@ union a n met = record { start = lowest a met; len = highest (a + n) met - lowes
 unfoldable pub joined : List Record → ℕ → ℕ → List Record
 joined rs a zero = rs
 joined rs a (suc n) = earlier a rs ++ union a (suc n) (keep (meets a (suc n)) rs) ∷ later (a + suc n) rs
+
+-- F-6's search, which takes the records as they stand, from the lowest start upward: how many it looks at until one starts above e, that one
+-- counted; all of them where none does
+unfoldable pub lookedUpTo : (e : ℕ) → List Record → ℕ
+lookedUpTo e [] = 0
+lookedUpTo e (r ∷ rs) = suc (cond (ltb e (r .start)) 0 (lookedUpTo e rs))
+
+-- F-6's number of a fetch: the search for a span of no bytes looks at none
+unfoldable pub looked : List Record → (a n : ℕ) → ℕ
+looked rs a zero = 0
+looked rs a (suc n) = lookedUpTo (a + suc n) rs
+
+-- F-6's records that start at or below an address, counted (`LookedBound`, `LookedExactly`)
+abbrev pub startingUpTo : (e : ℕ) → List Record → ℕ
+startingUpTo e rs = length (keep (λ r. leb (r .start) e) rs)

@@ -1,8 +1,10 @@
--- What a call answers: the number of a refusal, or the numbers of its reply.
+-- What a call answers: the number of a refusal, or the numbers of its reply. (F-6 is a request of 02, the agreed changes; docs/RULES.md has its
+-- rule.)
 use Prim.Native.Nat.{ℕ, min}
 use mathlib.Core.List.{List, [], _∷_, map}
 use mathlib.Core.Bool.{Bool, true, false, cond, _&&_, _||_}
 use lib.Dec.{ltb, eqb}
+use lib.ListN.{take, getD}
 
 -- the answer of 01 (the agreed scope; docs/RULES.md has its rules): the refusal number or the whole reply
 pub data Reply : Type 0 where
@@ -17,6 +19,15 @@ accepted (replied ns) = true
 abbrev pub numbersOf : Reply → List ℕ
 numbersOf (refused n) = []
 numbersOf (replied ns) = ns
+
+-- F-6's number of records looked at, which a fetch replies behind its two counts; and an answer without it, as the log prints it and as the byte
+-- map gives it. (No other call replies more than two numbers, so that nothing else is left out.)
+abbrev pub lookedIn : Reply → ℕ
+lookedIn r = getD (numbersOf r) 2 0
+
+abbrev pub withoutLooked : Reply → Reply
+withoutLooked (refused n) = refused n
+withoutLooked (replied ns) = replied (take 2 ns)
 
 -- a reason to turn a call away: whether it applies, and its number
 pub record Check : Type 0 where

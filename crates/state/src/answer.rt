@@ -1,4 +1,5 @@
-// What each call answers: begin, fetch, end and own write of the record engine and of the byte map alike, host write, show and the page walk.
+// What each call answers: begin, end and own write of the record engine and of the byte map alike, fetch of the one and of the other, host write,
+// show and the page walk.
 use crate::refusal::Refusal;
 
 pub enum BeginAnswer {
@@ -7,6 +8,17 @@ pub enum BeginAnswer {
 }
 
 pub enum FetchAnswer {
+    // how many bytes of the span were fresh, how many were replayed, and how many records were looked at
+    Done {
+        fresh: usize,
+        replayed: usize,
+        looked: usize,
+    },
+    Refused(Refusal),
+}
+
+// The byte map has no records to look at.
+pub enum MapFetchAnswer {
     // how many bytes of the span were fresh, and how many were replayed
     Done { fresh: usize, replayed: usize },
     Refused(Refusal),
@@ -36,7 +48,7 @@ pub enum ShowAnswer {
 }
 
 pub enum WalkAnswer {
-    // how many spans there are
-    Done(usize),
+    // how many spans there are, and how many records the list fetches looked at
+    Done { spans: usize, looked: usize },
     Refused(Refusal),
 }

@@ -14,6 +14,7 @@ pub use answer::BeginAnswer;
 pub use answer::EndAnswer;
 pub use answer::FetchAnswer;
 pub use answer::HostWriteAnswer;
+pub use answer::MapFetchAnswer;
 pub use answer::OwnWriteAnswer;
 pub use answer::ShowAnswer;
 pub use answer::WalkAnswer;

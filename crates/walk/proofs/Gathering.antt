@@ -9,12 +9,12 @@ use borrow.Author.Tests.{ltb-true}
 use Rattle.state.specs.declared.refusal.Refusal.the-variants.{EntryMisaligned}
 use Rattle.state.specs.Verdict.{Reply, accepted, verdict}
 use Rattle.cache.specs.Runs.{Machine, given, ran}
-use Rattle.admission.specs.declared.admit.Admission.{Admission}
-use Rattle.admission.specs.declared.admit.Admission.the-variants.{Admitted, Barred}
 use Rattle.prp.specs.Pages.{Walk, pageSize, needed, withList}
 use Rattle.prp.specs.Entries.{entriesBehind, isMultiple, wrongMultiple, judged, _then_}
-use Rattle.prp.specs.Walk.{Asks, behindSays, pageEntries, asksOf}
-use Rattle.prp.proofs.Listed.{entries-none}
+use Rattle.prp.specs.Walk.{Asks, behindSays, pageEntries, lookedBehind, asksOf}
+use Rattle.listing.specs.declared.Gathered.{Gathered}
+use Rattle.listing.specs.declared.Gathered.the-variants.{Entries, Refused}
+use Rattle.prp.proofs.Listed.{entries-none, looked-none, looked-lists}
 use Rattle.prp.proofs.Said.{saidIf}
 use Rattle.prp.proofs.Reading.{behind-few, behind-some}
 use Rattle.lists.specs.Lists.{listsMake, Lists}
@@ -27,9 +27,14 @@ module _ (words store : List ℕ) (w : Walk) where
   abbrev asks : Asks
   asks = asksOf m
 
-  pub wrong-first : (scratch : List ℕ) → isMultiple 4 (w .prp1) ≡ false → Gathers words store w (Barred EntryMisaligned) words store scratch
+  pub wrong-first : (scratch : List ℕ) → isMultiple 4 (w .prp1) ≡ false → Gathers words store w (Refused EntryMisaligned) words store scratch
   unfolding verdict accepted entriesMake ran
-  wrong-first scratch wrong = record { answer = rw wrong; machine = rw wrong; entries = λ e. absurd (false≢true e) }
+  wrong-first scratch wrong = record {
+    answer = rw wrong;
+    machine = rw wrong;
+    entries = λ e. absurd (false≢true e);
+    looked = λ e. absurd (false≢true e);
+  }
 
   module _ (right : isMultiple 4 (w .prp1) ≡ true) where
     said : (judged (wrongMultiple 4 (w .prp1) ∷ []) then behindSays asks w) ≡ behindSays asks w
@@ -41,7 +46,7 @@ module _ (words store : List ℕ) (w : Walk) where
     makes-if b e = rw (right, e)
 
     pub by-lists :
-        (r : Admission) (words′ store′ scratch′ : List ℕ) → withList w ≡ true → Lists words store w r words′ store′ scratch′
+        (r : Gathered) (words′ store′ scratch′ : List ℕ) → withList w ≡ true → Lists words store w r words′ store′ scratch′
         → Gathers words store w r words′ store′ scratch′
     by-lists r words′ store′ scratch′ listed L =
         let some : 1 < needed w = ltb-true 1 (needed w) listed in
@@ -49,6 +54,7 @@ module _ (words store : List ℕ) (w : Walk) where
           answer = L .answer ∙ sym (said ∙ ap (saidIf asks w) listed);
           machine = L .machine ∙ ap (ran m) (sym (makes-if true listed));
           entries = λ e. behind-some (w .prp2) (needed w) scratch′ (omega arith) ∙ L .entries e;
+          looked = λ e. L .looked e ∙ sym (looked-lists asks w listed);
         }
 
     -- without lists the machine stays
@@ -67,14 +73,22 @@ module _ (words store : List ℕ) (w : Walk) where
       behind : entriesBehind (w .prp2) (needed w) scratch ≡ pageEntries asks w
       behind = behind-few (w .prp2) (needed w) scratch unlisted ∙ sym (entries-none asks w unlisted)
 
-      pub none-needed : needed w ≡ 0 → Gathers words store w Admitted words store scratch
-      unfolding verdict
-      none-needed none = record { answer = sym (said-second 0 none); machine = left; entries = λ e. behind }
+      none-looked : 0 ≡ lookedBehind asks w
+      none-looked = sym (looked-none asks w unlisted)
 
-      pub second-wrong : needed w ≡ 1 → isMultiple pageSize (w .prp2) ≡ false → Gathers words store w (Barred EntryMisaligned) words store scratch
+      pub none-needed : needed w ≡ 0 → Gathers words store w (Entries 0) words store scratch
+      unfolding verdict
+      none-needed none = record { answer = sym (said-second 0 none); machine = left; entries = λ e. behind; looked = λ e. none-looked }
+
+      pub second-wrong : needed w ≡ 1 → isMultiple pageSize (w .prp2) ≡ false → Gathers words store w (Refused EntryMisaligned) words store scratch
       unfolding verdict accepted
-      second-wrong one wrong = record { answer = sym (said-second 1 one ∙ rw wrong); machine = left; entries = λ e. absurd (false≢true e) }
+      second-wrong one wrong = record {
+        answer = sym (said-second 1 one ∙ rw wrong);
+        machine = left;
+        entries = λ e. absurd (false≢true e);
+        looked = λ e. absurd (false≢true e);
+      }
 
-      pub second-right : needed w ≡ 1 → isMultiple pageSize (w .prp2) ≡ true → Gathers words store w Admitted words store scratch
+      pub second-right : needed w ≡ 1 → isMultiple pageSize (w .prp2) ≡ true → Gathers words store w (Entries 0) words store scratch
       unfolding verdict
-      second-right one fine = record { answer = sym (said-second 1 one ∙ rw fine); machine = left; entries = λ e. behind }
+      second-right one fine = record { answer = sym (said-second 1 one ∙ rw fine); machine = left; entries = λ e. behind; looked = λ e. none-looked }

@@ -12,14 +12,14 @@ use Rattle.state.specs.Answers.{walkReply}
 use Rattle.state.specs.Refusals.{number}
 use Rattle.state.specs.Verdict.{Reply, refused, replied, accepted, Check, _⇒_, verdict}
 use Rattle.cache.specs.Runs.{Call, Machine, given, ran}
-use Rattle.admission.specs.declared.admit.Admission.{Admission}
-use Rattle.admission.specs.Plan.{admissionReply}
 use Rattle.prp.specs.Pages.{Walk, touched, needed, spanLengths, withList, chained, firstCount}
 use Rattle.prp.specs.Entries.{entriesBehind, isMultiple, wrongMultiple, judged, _then_, pageSays}
-use Rattle.prp.specs.Walk.{Asks, gotOne, listOne, listTwo, behindSays, pageEntries, answerBy, makesOne, fetchesBy, asksOf, walkChecks}
+use Rattle.prp.specs.Walk.{Asks, gotOne, listOne, listTwo, behindSays, pageEntries, lookedBehind, answerBy, makesOne, fetchesBy, asksOf, walkChecks}
 use Rattle.prp.specs.Walk.{walkSays, walkFetches, walkAfter, walkScratch, walkAddresses, walkLengths}
-use Rattle.prp.proofs.Answers.{then-goes-on, then-assoc, then-replies}
+use Rattle.prp.proofs.Answers.{then-goes-on, then-assoc, then-replies, then-same}
 use Rattle.prp.proofs.Refused.{refused-early}
+use Rattle.listing.specs.declared.Gathered.{Gathered}
+use Rattle.listing.specs.Page.{gatheredReply, lookedBy}
 use Rattle.lists.specs.Lists.{asked, listsMake}
 use Rattle.walk.specs.Parts.{entriesMake, Gathers, Concludes}
 use Rattle.walk.specs.Walk.{lent, Walks}
@@ -70,27 +70,32 @@ module _ (words store : List ℕ) (c prp1 prp2 transfer : ℕ) (window scratch a
   refused-walk why said =
       let N = refused-early m w (ap accepted (sym said)) in
       record {
-        answer = ap (λ (q : Reply). q then judged (wrongMultiple 4 prp1 ∷ []) then behindSays (asksOf m) w then replied (touched w ∷ [])) said;
+        answer =
+            ap
+            (λ (q : Reply).
+            q then judged (wrongMultiple 4 prp1 ∷ []) then behindSays (asksOf m) w then replied (touched w ∷ lookedBehind (asksOf m) w ∷ []))
+            said;
         machine = sym (N .machine);
         scratch = sym (N .scratch);
         addresses = sym (N .lists .addresses);
         lengths = sym (N .lists .lengths);
       }
 
-  module _ (passed : accepted (judged (walkChecks m w)) ≡ true) (g : Admission) (words′ store′ scratch′ : List ℕ) (sized : length scratch′ ≡ length scratch)
+  module _ (passed : accepted (judged (walkChecks m w)) ≡ true) (g : Gathered) (words′ store′ scratch′ : List ℕ) (sized : length scratch′ ≡ length scratch)
       (G : Gathers words store a g words′ store′ scratch′) (r : WalkAnswer) (addresses′ lengths′ : List ℕ)
       (C : Concludes g (asked 0 prp1 prp2 transfer []) scratch′ addresses lengths r addresses′ lengths′) where
     abbrev spans : Reply
-    spans = replied (touched w ∷ [])
+    spans = replied (touched w ∷ lookedBehind (asksOf m) w ∷ [])
 
     said : walkReply r ≡ walkSays m w
-    unfolding walkSays answerBy
+    unfolding walkSays answerBy lookedBehind
     said =
-        C .answer ∙ ap (λ (q : Reply). q then spans) (G .answer)
+        C .answer ∙ then-same (gatheredReply g) _ spans (λ e. ap (λ (k : ℕ). replied (touched w ∷ k ∷ [])) (G .looked e))
+        ∙ ap (λ (q : Reply). q then spans) (G .answer)
         ∙ then-assoc (judged (wrongMultiple 4 prp1 ∷ [])) (behindSays (asksOf m) w) spans ∙ sym (then-goes-on _ (judged (walkChecks m w)) passed)
 
-    taken : accepted (admissionReply g) ≡ accepted (walkSays m w)
-    taken = sym (then-replies (admissionReply g) (touched w ∷ [])) ∙ ap accepted (sym (C .answer) ∙ said)
+    taken : accepted (gatheredReply g) ≡ accepted (walkSays m w)
+    taken = sym (then-replies (gatheredReply g) (touched w ∷ lookedBy g ∷ [])) ∙ ap accepted (sym (C .answer) ∙ said)
 
     left : given words′ store′ ≡ walkAfter m w
     unfolding walkFetches entriesMake listsMake
@@ -102,12 +107,12 @@ module _ (words store : List ℕ) (c prp1 prp2 transfer : ℕ) (window scratch a
 
     starts : addresses′ ≡ walkAddresses m w
     unfolding walkAddresses pageEntries
-    starts = C .starts ∙ go (accepted (admissionReply g)) refl ∙ ap (λ (b : Bool). cond b put addresses) taken
+    starts = C .starts ∙ go (accepted (gatheredReply g)) refl ∙ ap (λ (b : Bool). cond b put addresses) taken
       where
         put : List ℕ
         put = overwrite addresses 0 (prp1 ∷ pageEntries (asksOf m) w)
 
-        go : (b : Bool) → accepted (admissionReply g) ≡ b
+        go : (b : Bool) → accepted (gatheredReply g) ≡ b
             → cond b (overwrite addresses 0 (prp1 ∷ entriesBehind prp2 (needed w) scratch′)) addresses ≡ cond b put addresses
         go true e = ap (λ (es : List ℕ). overwrite addresses 0 (prp1 ∷ es)) (G .entries e)
         go false e = refl

@@ -3,7 +3,7 @@ ghost use Prim.Native.Nat.{_≤_, _<_};
 ghost use lib.ListN.{length};
 ghost use Rattle.lists.specs.Lists.{asked};
 ghost use Rattle.walk.specs.Parts.{Gathers};
-use admission::admit::Admission;
+use listing::Gathered;
 use lists::gather_lists;
 use pages::spans::behind_first;
 use state::CacheState;
@@ -18,22 +18,22 @@ pub(crate) fn gather(
     prp1: u64,
     prp2: u64,
     transfer: usize,
-) -> Admission
+) -> Gathered
     requires { ⌜ (128 ≤ length (now scratch)) × (0 < transfer) × (transfer ≤ 65536) ⌝ }
     ensures { λ r. ⌜ Gathers (now (state .entry)) (now (store .entry)) (asked command prp1 prp2 transfer (now (window .entry))) r (now (state .exit)) (now (store .exit)) (now (scratch .exit)) ⌝ }
 {
     if prp1 % 4 != 0 {
-        return Admission::Barred(Refusal::EntryMisaligned);
+        return Gathered::Refused(Refusal::EntryMisaligned);
     }
     let behind = behind_first(prp1, transfer);
     if 1 < behind {
         return gather_lists(state, store, window, scratch, command, prp1, prp2, transfer);
     }
     if behind == 0 {
-        return Admission::Admitted;
+        return Gathered::Entries(0);
     }
     if prp2 % 4096 != 0 {
-        return Admission::Barred(Refusal::EntryMisaligned);
+        return Gathered::Refused(Refusal::EntryMisaligned);
     }
-    Admission::Admitted
+    Gathered::Entries(0)
 }

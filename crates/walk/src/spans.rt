@@ -4,7 +4,7 @@ ghost use Prim.Native.Nat.{_≤_, _<_};
 ghost use lib.ListN.{length};
 ghost use Rattle.lists.specs.Lists.{asked};
 ghost use Rattle.walk.specs.Parts.{Concludes};
-use admission::admit::Admission;
+use listing::Gathered;
 use pages::spans::behind_first;
 use pages::spans::put_addresses;
 use pages::spans::put_lengths;
@@ -12,7 +12,7 @@ use state::WalkAnswer;
 
 // Once the entries are gathered, the spans go into the lists.
 pub(crate) fn conclude(
-    gathered: Admission,
+    gathered: Gathered,
     scratch: &[u8],
     addresses: &mut [u64],
     lengths: &mut [u32],
@@ -23,13 +23,15 @@ pub(crate) fn conclude(
     requires { ⌜ (128 ≤ length (now scratch)) × (17 ≤ length (now addresses)) × (17 ≤ length (now lengths)) × (0 < transfer) × (transfer ≤ 65536) ⌝ }
     ensures { λ r. ⌜ Concludes gathered (asked 0 prp1 prp2 transfer []) (now (scratch .entry)) (now (addresses .entry)) (now (lengths .entry)) r (now (addresses .exit)) (now (lengths .exit)) ⌝ }
 {
-    if let Admission::Barred(why) = gathered {
-        return WalkAnswer::Refused(why);
+    match gathered {
+        Gathered::Refused(why) => WalkAnswer::Refused(why),
+        Gathered::Entries(looked) => {
+            let offset = (prp1 % 4096) as usize;
+            let behind = behind_first(prp1, transfer);
+            let spans = behind + 1;
+            put_addresses(addresses, prp1, prp2, scratch, behind);
+            put_lengths(lengths, offset, offset + transfer, spans);
+            WalkAnswer::Done { spans, looked }
+        }
     }
-    let offset = (prp1 % 4096) as usize;
-    let behind = behind_first(prp1, transfer);
-    let spans = behind + 1;
-    put_addresses(addresses, prp1, prp2, scratch, behind);
-    put_lengths(lengths, offset, offset + transfer, spans);
-    WalkAnswer::Done(spans)
 }

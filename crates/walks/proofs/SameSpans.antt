@@ -172,7 +172,7 @@ module _ (store : List ℕ) (qs : List Call) (m : Machine) (is : m ≡ ran (star
   entries-kept = go (listing (asksOf m) w (walkChecks m w) taken)
     where
       go : Listing (asksOf m) w (walkChecks m w) → pageEntries (asksOf m) w ≡ pageEntries (asksOf k) (withRest w v)
-      go (noList e) = entries-none (asksOf m) w e ∙ sym (entries-none (asksOf k) (withRest w v) e)
+      go (noList e none) = entries-none (asksOf m) w e ∙ sym (entries-none (asksOf k) (withRest w v) e)
       go (onePage e u made) =
           entries-one (asksOf m) w e u
           ∙ ap (entriesIn (firstCount w)) (first-bytes e [] made (λ x. unfold all along in refl))

@@ -1,11 +1,11 @@
 -- Two walks that differ in the bytes of their windows alone, at one machine and with one memory: where their first fetches agree they do the same.
-use Prim.Native.Nat.{ℕ, _-_}
+use Prim.Native.Nat.{ℕ, _+_, _-_}
 use mathlib.Core.Path.{_≡_, refl, ap, ap₂, subst, sym, _∙_}
 use mathlib.Core.List.{List, [], _∷_, _++_, flatMap}
 use mathlib.Core.Bool.{Bool, true, false, false≢true, _&&_}
 use lib.ListN.{length, take, getD}
 use Rattle.octets.proofs.Lists.{both}
-use Rattle.state.specs.Verdict.{Reply, replied, accepted, Check}
+use Rattle.state.specs.Verdict.{Reply, replied, accepted, lookedIn, Check}
 use Rattle.cache.specs.Runs.{Call, Machine, says, after, delivers, along, ran}
 use Rattle.history.specs.Journal.{Event, event, told}
 use Rattle.history.specs.Firsts.{First, memory, firsts}
@@ -13,12 +13,12 @@ use Rattle.history.proofs.Sound.{Sound, sound-after}
 use Rattle.history.proofs.Alike.{Alike, fetches}
 use Rattle.prp.specs.Pages.{Walk, touched, withList, fit, chained, firstCount, secondCount}
 use Rattle.prp.specs.Entries.{Got, wrongMultiple, judged, _then_, entriesIn, listFetch, pageSays}
-use Rattle.prp.specs.Walk.{Asks, asksOf, listOne, listTwo, gotOne, gotTwo, behindSays, answerBy, pageEntries, makesOne, makesTwo, fetchesBy}
-use Rattle.prp.specs.Walk.{walkChecks}
+use Rattle.prp.specs.Walk.{Asks, asksOf, listOne, listTwo, gotOne, gotTwo, behindSays, answerBy, pageEntries, lookedBehind, makesOne, makesTwo}
+use Rattle.prp.specs.Walk.{fetchesBy, walkChecks}
 use Rattle.prp.proofs.Answers.{then-same}
 use Rattle.prp.proofs.Said.{made-one}
-use Rattle.prp.proofs.Listed.{entries-none, entries-one, entries-two}
-use Rattle.prp.proofs.Listing.{Listing, noList, onePage, twoPages, listing, fetches-made, first-made, makes-one, makes-two}
+use Rattle.prp.proofs.Listed.{entries-none, entries-one, entries-two, looked-none, looked-lists, lists-one, lists-two}
+use Rattle.prp.proofs.Listing.{Listing, noList, onePage, twoPages, listing, fetches-made, first-made, all-taken, makes-one, makes-two}
 use Rattle.walks.specs.Places.{gathered}
 use Rattle.walks.specs.Claims.{agree}
 use Rattle.walks.proofs.Agreeing.{agree-front, agree-rest}
@@ -38,7 +38,7 @@ withBytes w scratch window = record {
   window = window;
 }
 
--- Where the list fetches that are made get the same, the answer is the same, and so are the entries of an accepted walk.
+-- Where the list fetches that are made get the same, the answer is the same, and so are of an accepted walk the entries, and the records looked at.
 module _ (asks : Asks) (w : Walk) (scratch window : List ℕ) (checks : List Check)
     (one : makesOne asks w checks ≡ true → gotOne asks w ≡ gotOne asks (withBytes w scratch window))
     (two : makesTwo asks w checks ≡ true → gotTwo asks w ≡ gotTwo asks (withBytes w scratch window)) where
@@ -58,12 +58,27 @@ module _ (asks : Asks) (w : Walk) (scratch window : List ℕ) (checks : List Che
       go page true e = ap (pageSays (secondCount w)) (two (both (both made e) page))
       go page false e = refl
 
+  looked-same : accepted (answerBy asks w checks) ≡ true → lookedBehind asks w ≡ lookedBehind asks v
+  looked-same taken = go (listing asks w checks taken)
+    where
+      go : Listing asks w checks → lookedBehind asks w ≡ lookedBehind asks v
+      go (noList e none) = looked-none asks w e ∙ sym (looked-none asks v e)
+      go (onePage e u made) =
+          looked-lists asks w e ∙ lists-one asks w u ∙ ap (λ (g : Got). lookedIn (g .answer)) (one (makes-one asks w checks taken e))
+          ∙ sym (looked-lists asks v e ∙ lists-one asks v u)
+      go (twoPages e u made) =
+          looked-lists asks w e ∙ lists-two asks w u
+          ∙ ap₂ (λ g h. lookedIn (g .answer) + lookedIn (h .answer)) (one (makes-one asks w checks taken e)) (two (makes-two asks w checks taken e u))
+          ∙ sym (looked-lists asks v e ∙ lists-two asks v u)
+
   pub answer-same : answerBy asks w checks ≡ answerBy asks v checks
-  unfolding answerBy
+  unfolding answerBy accepted
   answer-same =
       then-same (judged checks) _ _ λ fine.
       then-same (judged (wrongMultiple 4 (w .prp1) ∷ [])) _ _ λ fine1.
-      ap (λ (r : Reply). r then replied (touched w ∷ [])) (go fine fine1 (withList w) refl)
+      then-same (behindSays asks w) _ _ (λ fine2.
+      ap (λ (k : ℕ). replied (touched w ∷ k ∷ [])) (looked-same (ap accepted (all-taken asks w checks fine fine1 fine2))))
+      ∙ ap (λ (r : Reply). r then replied (touched w ∷ lookedBehind asks v ∷ [])) (go fine fine1 (withList w) refl)
     where
       go : accepted (judged checks) ≡ true → accepted (judged (wrongMultiple 4 (w .prp1) ∷ [])) ≡ true → (b : Bool) → withList w ≡ b
           → behindSays asks w ≡ behindSays asks v
@@ -75,7 +90,7 @@ module _ (asks : Asks) (w : Walk) (scratch window : List ℕ) (checks : List Che
   entries-same taken = go (listing asks w checks taken)
     where
       go : Listing asks w checks → pageEntries asks w ≡ pageEntries asks v
-      go (noList e) = entries-none asks w e ∙ sym (entries-none asks v e)
+      go (noList e none) = entries-none asks w e ∙ sym (entries-none asks v e)
       go (onePage e u made) =
           entries-one asks w e u ∙ ap (λ (g : Got). entriesIn (firstCount w) (g .bytes)) (one (makes-one asks w checks taken e))
           ∙ sym (entries-one asks v e u)

@@ -46,7 +46,7 @@ module _ (store : List ℕ) (ps : List Place) where
   pub record Counted : Type 0 where
     -- the delivery rule
     pub delivered : gathered (throughout placeDelivers (start store) ps) ≡ told owed [] eventsOf
-    -- fresh and replayed, and the two numbers of an own write
+    -- fresh, replayed and the records looked at, and the two numbers of an own write
     pub counts : told countsReplied [] eventsOf ≡ told countsOwed [] eventsOf
     -- end's byte number
     pub sums : told bytesReplied [] eventsOf ≡ told sumOwed [] eventsOf

@@ -3,13 +3,13 @@
 -- another begin.
 use Prim.Native.Nat.{ℕ}
 use native.Mathlib.Omega.{arith}
-use mathlib.Core.Path.{_≡_, refl, ap, _∙_}
+use mathlib.Core.Path.{_≡_, refl, ap, sym, _∙_}
 use mathlib.Core.List.{List, [], _∷_, map}
 use mathlib.Core.Logic.{_≢_}
 use mathlib.Core.Bool.{true, false, not}
 use lib.ListN.{replicate}
 use Rattle.octets.specs.Lists.{count, all}
-use Rattle.state.specs.Records.{held, span, addresses, total, place, countFresh, countHeld, keep, lowest, highest, joined}
+use Rattle.state.specs.Records.{held, span, addresses, total, place, countFresh, countHeld, keep, lowest, highest, joined, lookedUpTo, looked}
 use Rattle.state.specs.State.{isOpen, ascending, commandHolds, holds}
 use Rattle.state.specs.Verdict.{Reply, refused, replied, verdict, accepted}
 use Rattle.cache.specs.Begin.{beginSays, beginState, beginStore}
@@ -18,11 +18,12 @@ use Rattle.cache.specs.End.{endSays, endState, endStore}
 use Rattle.cache.specs.Runs.{Call, begin, fetch, end, hostWrite, show, start, along, ran, delivers}
 use Rattle.history.specs.Journal.{Event, journal, told, backwards, deed}
 use Rattle.history.specs.Firsts.{remember, memory, writeIn, lastWrite, fetchIn, firstFetch, First, firstsAmong, firstsBy, firsts, owedBy, owed}
-use Rattle.history.specs.Counts.{countsBy, countsOwed, add, freshSince, sumOwed}
+use Rattle.history.specs.Counts.{countsReplied, countsOwed, add, freshSince, sumOwed}
 use Rattle.history.specs.Stores.{phaseBy, phase}
 use Rattle.history.specs.Answers.{openSince, replayCount, firstCount, answerOwed, eventsOf, spare}
 use Rattle.history.specs.Claims.{renews, mayChange, common}
 use Rattle.history.proofs.Tied.{open-told}
+use Rattle.history.proofs.Counts.{counts-tie}
 use Rattle.history.proofs.Meet.{counts-meet}
 
 abbrev dest : List ℕ
@@ -37,15 +38,15 @@ run : List Event
 run =
     (begin 1 gives replied [])
     ∷ (begin 2 gives replied [])
-    ∷ (fetch 1 0 2 dest (4 ∷ 5 ∷ 6 ∷ []) gives replied (2 ∷ 0 ∷ []))
-    ∷ (fetch 2 0 1 dest (40 ∷ 50 ∷ 60 ∷ []) gives replied (1 ∷ 0 ∷ []))
-    ∷ (fetch 1 0 3 dest (40 ∷ 50 ∷ 60 ∷ []) gives replied (1 ∷ 2 ∷ []))
+    ∷ (fetch 1 0 2 dest (4 ∷ 5 ∷ 6 ∷ []) gives replied (2 ∷ 0 ∷ 0 ∷ []))
+    ∷ (fetch 2 0 1 dest (40 ∷ 50 ∷ 60 ∷ []) gives replied (1 ∷ 0 ∷ 0 ∷ []))
+    ∷ (fetch 1 0 3 dest (40 ∷ 50 ∷ 60 ∷ []) gives replied (1 ∷ 2 ∷ 1 ∷ []))
     ∷ (fetch 1 2 2 dest (7 ∷ 8 ∷ 9 ∷ []) gives refused 9)
     ∷ (fetch 1 0 3 dest (7 ∷ 8 ∷ []) gives refused 9)
     ∷ (begin 1 gives refused 22)
     ∷ (end 1 gives replied (1 ∷ 3 ∷ []))
     ∷ (begin 1 gives replied [])
-    ∷ (fetch 1 0 1 dest (7 ∷ 8 ∷ 9 ∷ []) gives replied (1 ∷ 0 ∷ []))
+    ∷ (fetch 1 0 1 dest (7 ∷ 8 ∷ 9 ∷ []) gives replied (1 ∷ 0 ∷ 0 ∷ []))
     ∷ (end 1 gives replied (1 ∷ 1 ∷ [])) ∷ []
 
 calls : List Call
@@ -53,7 +54,7 @@ calls = map (λ e. e .call) run
 
 is-run : journal (replicate 32768 3) calls ≡ run
 unfolding run calls along beginSays beginState beginStore fetchSays fetchState fetchStore endSays endState endStore verdict accepted
-    all ascending commandHolds holds total held span countFresh countHeld keep lowest highest joined addresses place
+    all ascending commandHolds holds total held span countFresh countHeld keep lowest highest joined addresses place lookedUpTo looked
 is-run = refl
 
 abbrev _↦↦_ : ℕ → ℕ → First
@@ -76,10 +77,15 @@ bytes-delivered : along delivers (start (replicate 32768 3)) calls
 unfolding run calls is-run fetchDest
 bytes-delivered = refl
 
+-- the counts owed are those replied, by the claim and without a search of all addresses for runs
+owed-replied : told countsOwed [] run ≡ told countsReplied [] run
+owed-replied =
+    sym (ap (told countsOwed []) is-run) ∙ sym (counts-tie (replicate 32768 3) calls) ∙ ap (told countsReplied []) is-run
+
 counts-owed : told countsOwed [] run
-    ≡ [] ∷ [] ∷ (2 ∷ 0 ∷ []) ∷ (1 ∷ 0 ∷ []) ∷ (1 ∷ 2 ∷ []) ∷ [] ∷ [] ∷ [] ∷ [] ∷ [] ∷ (1 ∷ 0 ∷ []) ∷ [] ∷ []
-unfolding run told remember memory firstsAmong count countsBy accepted span
-counts-owed = refl
+    ≡ [] ∷ [] ∷ (2 ∷ 0 ∷ 0 ∷ []) ∷ (1 ∷ 0 ∷ 0 ∷ []) ∷ (1 ∷ 2 ∷ 1 ∷ []) ∷ [] ∷ [] ∷ [] ∷ [] ∷ [] ∷ (1 ∷ 0 ∷ 0 ∷ []) ∷ [] ∷ []
+unfolding run told accepted
+counts-owed = owed-replied
 
 sums-owed : told sumOwed [] run ≡ [] ∷ [] ∷ [] ∷ [] ∷ [] ∷ [] ∷ [] ∷ [] ∷ (3 ∷ []) ∷ [] ∷ [] ∷ (1 ∷ []) ∷ []
 unfolding run told add freshSince accepted

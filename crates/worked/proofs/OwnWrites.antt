@@ -2,11 +2,11 @@
 -- another host byte at each; another command reads the window's bytes; a write past the window, one of no bytes and one by a closed command;
 -- and what is written is forgotten with the end.
 use Prim.Native.Nat.{ℕ}
-use mathlib.Core.Path.{_≡_, refl}
+use mathlib.Core.Path.{_≡_, refl, ap, sym, _∙_}
 use mathlib.Core.List.{List, [], _∷_, map}
 use lib.ListN.{replicate, take}
-use Rattle.octets.specs.Lists.{count, all}
-use Rattle.state.specs.Records.{held, span, addresses, total, place, countFresh, countHeld, keep, lowest, highest, joined}
+use Rattle.octets.specs.Lists.{all}
+use Rattle.state.specs.Records.{held, span, addresses, total, place, countFresh, countHeld, keep, lowest, highest, joined, lookedUpTo, looked}
 use Rattle.state.specs.State.{ascending, commandHolds, holds}
 use Rattle.state.specs.Verdict.{Reply, refused, replied, verdict, accepted}
 use Rattle.cache.specs.Begin.{beginSays, beginState, beginStore}
@@ -18,8 +18,9 @@ use Rattle.cache.proofs.Claims.{own-as-fetched}
 use Rattle.history.specs.Journal.{Event, journal, told, backwards}
 use Rattle.history.specs.Firsts.{Value, none, some, remember, memory, writeIn, lastWrite, fetchIn, firstFetch, valueSince}
 use Rattle.history.specs.Firsts.{First, firstsAmong, firstsBy, firsts, owedBy, owed}
-use Rattle.history.specs.Counts.{countsBy, countsOwed, add, freshSince, sumOwed}
+use Rattle.history.specs.Counts.{countsReplied, countsOwed, add, freshSince, sumOwed}
 use Rattle.history.specs.Claims.{common}
+use Rattle.history.proofs.Counts.{counts-tie}
 use Rattle.history.proofs.EqualRuns.{equal-runs}
 
 abbrev dest : List ℕ
@@ -40,23 +41,23 @@ run : List Event
 run =
     (begin 1 gives replied [])
     ∷ (begin 2 gives replied [])
-    ∷ (fetch 1 0 2 dest window gives replied (2 ∷ 0 ∷ []))
+    ∷ (fetch 1 0 2 dest window gives replied (2 ∷ 0 ∷ 0 ∷ []))
     ∷ (ownWrite 1 1 (8 ∷ 9 ∷ []) window gives replied (2 ∷ 1 ∷ []))
-    ∷ (fetch 1 0 3 dest changed gives replied (0 ∷ 3 ∷ []))
-    ∷ (fetch 2 1 2 dest changed gives replied (2 ∷ 0 ∷ []))
+    ∷ (fetch 1 0 3 dest changed gives replied (0 ∷ 3 ∷ 1 ∷ []))
+    ∷ (fetch 2 1 2 dest changed gives replied (2 ∷ 0 ∷ 0 ∷ []))
     ∷ (ownWrite 1 3 (8 ∷ 9 ∷ []) window gives refused 9)
     ∷ (ownWrite 1 4 [] window gives replied (0 ∷ 0 ∷ []))
     ∷ (ownWrite 3 0 (8 ∷ []) window gives refused 21)
     ∷ (end 1 gives replied (1 ∷ 3 ∷ []))
     ∷ (begin 1 gives replied [])
-    ∷ (fetch 1 1 1 dest changed gives replied (1 ∷ 0 ∷ [])) ∷ []
+    ∷ (fetch 1 1 1 dest changed gives replied (1 ∷ 0 ∷ 0 ∷ [])) ∷ []
 
 calls : List Call
 calls = map (λ e. e .call) run
 
 is-run : journal (replicate 32768 3) calls ≡ run
 unfolding run calls along beginSays beginState beginStore fetchSays fetchState fetchStore ownSays ownState ownStore endSays endState endStore
-    verdict accepted all ascending commandHolds holds total held span countFresh countHeld keep lowest highest joined addresses place
+    verdict accepted all ascending commandHolds holds total held span countFresh countHeld keep lowest highest joined addresses place lookedUpTo looked
 is-run = refl
 
 bytes-owed : told owed [] run ≡ [] ∷ [] ∷ (4 ∷ 5 ∷ []) ∷ [] ∷ (4 ∷ 8 ∷ 9 ∷ []) ∷ (50 ∷ 60 ∷ []) ∷ [] ∷ [] ∷ [] ∷ [] ∷ [] ∷ (50 ∷ []) ∷ []
@@ -84,10 +85,15 @@ first-fetches : told firsts [] run
 unfolding run told remember memory firstsAmong firstsBy accepted span
 first-fetches = refl
 
+-- the counts owed are those replied, by the claim and without a search of all addresses for runs
+owed-replied : told countsOwed [] run ≡ told countsReplied [] run
+owed-replied =
+    sym (ap (told countsOwed []) is-run) ∙ sym (counts-tie (replicate 32768 3) calls) ∙ ap (told countsReplied []) is-run
+
 counts-owed : told countsOwed [] run
-    ≡ [] ∷ [] ∷ (2 ∷ 0 ∷ []) ∷ (2 ∷ 1 ∷ []) ∷ (0 ∷ 3 ∷ []) ∷ (2 ∷ 0 ∷ []) ∷ [] ∷ (0 ∷ 0 ∷ []) ∷ [] ∷ [] ∷ [] ∷ (1 ∷ 0 ∷ []) ∷ []
-unfolding run told remember memory firstsAmong count countsBy accepted span
-counts-owed = refl
+    ≡ [] ∷ [] ∷ (2 ∷ 0 ∷ 0 ∷ []) ∷ (2 ∷ 1 ∷ []) ∷ (0 ∷ 3 ∷ 1 ∷ []) ∷ (2 ∷ 0 ∷ 0 ∷ []) ∷ [] ∷ (0 ∷ 0 ∷ []) ∷ [] ∷ [] ∷ [] ∷ (1 ∷ 0 ∷ 0 ∷ []) ∷ []
+unfolding run told accepted
+counts-owed = owed-replied
 
 -- two addresses fresh, one that was written and not held before, and none
 sums-owed : told sumOwed [] run ≡ [] ∷ [] ∷ [] ∷ [] ∷ [] ∷ [] ∷ [] ∷ [] ∷ [] ∷ (3 ∷ []) ∷ [] ∷ [] ∷ []

@@ -13,7 +13,7 @@ use crate::buffers::Buffers;
 use crate::call::Call;
 
 /// The number of the interface that this package is written for.
-const RELEASE: u64 = 2;
+const RELEASE: u64 = 3;
 
 /// What the calls in the reference are made on.
 #[derive(Clone)]
@@ -78,7 +78,8 @@ impl Expected {
         }
     }
 
-    /// The calls of the byte map.
+    /// The calls of the byte map. Its fetch looks at no record, for which its reply
+    /// has 0.
     fn make_on_map(&mut self, call: &Call, data: &[u8]) -> Answer {
         let map = &mut self.map;
         let window = self.buffers.window.lent();
@@ -92,7 +93,7 @@ impl Expected {
             Call::MapFetch { span } => {
                 let destination = self.buffers.destination.lent();
                 let fetched = byte_map::fetch(map, window, span.start, span.length, destination);
-                Answer::of(fetched.map(|counts| [counts.fresh, counts.replayed]))
+                Answer::of(fetched.map(|counts| [counts.fresh, counts.replayed, 0]))
             }
             Call::MapOwn { span } => {
                 let written = byte_map::own_write(map, window, span.start, data);
@@ -112,7 +113,7 @@ impl Expected {
             span.length,
             self.buffers.destination.lent(),
         );
-        Answer::of(fetched.map(|counts| [counts.fresh, counts.replayed]))
+        Answer::of(fetched.map(|counts| [counts.fresh, counts.replayed, counts.looked]))
     }
 
     fn walk(&mut self, command: u64, transfer: Transfer) -> Answer {
@@ -129,7 +130,7 @@ impl Expected {
             transfer,
             lent,
         );
-        Answer::of(walked.map(|spans| [spans]))
+        Answer::of(walked.map(|counts| [counts.spans, counts.looked]))
     }
 
     /// A journal has its own book. Its log is cut where the output ends.

@@ -1,6 +1,6 @@
 //! A call, made in the proved library.
 
-use boundary::{ByteMap, Words, Written};
+use boundary::{ByteMap, Fetched, Words, Written};
 use reference::book::Span;
 use reference::walk::Transfer;
 
@@ -114,7 +114,7 @@ impl Library {
     }
 
     fn fetch(&mut self, command: usize, address: usize, length: usize) -> Answer {
-        let fetched = boundary::fetch(
+        fetched(boundary::fetch(
             &mut self.words,
             self.buffers.store.lent(),
             self.buffers.window.lent(),
@@ -122,9 +122,7 @@ impl Library {
             command,
             address,
             length,
-        );
-        let counts = [fetched.fresh as u64, fetched.replayed as u64];
-        Answer::status(fetched.status, counts)
+        ))
     }
 
     fn host(&mut self, address: usize, data: &[u8]) -> Answer {
@@ -156,19 +154,18 @@ impl Library {
             transfer.prp2,
             transfer.length as usize,
         );
-        Answer::status(walked.status, [walked.spans as u64])
+        let counts = [walked.spans as u64, walked.looked_at as u64];
+        Answer::status(walked.status, counts)
     }
 
     fn map_fetch(&mut self, span: Span) -> Answer {
-        let fetched = boundary::map_fetch(
+        fetched(boundary::map_fetch(
             &mut self.map,
             self.buffers.window.lent(),
             self.buffers.destination.lent(),
             span.start as usize,
             span.length as usize,
-        );
-        let counts = [fetched.fresh as u64, fetched.replayed as u64];
-        Answer::status(fetched.status, counts)
+        ))
     }
 
     fn replay(&mut self, journal: &[u8]) -> Answer {
@@ -183,6 +180,20 @@ impl Library {
         let [written, carried, refused] = counts.map(|count| count as u64);
         Answer::new([written, carried, refused, u64::from(replayed.early)])
     }
+}
+
+/// What a fetch answers.
+fn fetched(reply: Fetched) -> Answer {
+    let Fetched {
+        status,
+        fresh,
+        replayed,
+        looked_at,
+    } = reply;
+    Answer::status(
+        status,
+        [fresh, replayed, looked_at].map(|count| count as u64),
+    )
 }
 
 /// What a write answers.

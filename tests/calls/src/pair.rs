@@ -327,6 +327,33 @@ mod tests {
         assert!(touched > 50 && refused > 100, "{touched}, {refused}");
     }
 
+    #[test]
+    fn random_lists_search_all_records_or_some_and_up_to_one_that_is_touched() {
+        let (mut all, mut some, mut touched) = (0, 0, 0);
+        for seed in 0..200 {
+            let mut pair = Pair::new("a list");
+            for item in list(seed) {
+                let before = pair.expected.book.clone();
+                let mut tally = Tally::default();
+                pair.carry_out(&item, &mut tally);
+                let Line::Call(Call::Fetch { command, span }, _) = item.line else {
+                    continue;
+                };
+                if tally.count_of("fetch", 0) == 0 || span.length == 0 {
+                    continue;
+                }
+                let records = before.commands[command as usize].records();
+                let starts = records.iter().map(|record| u128::from(record.start));
+                let above = starts.clone().filter(|start| *start > span.end()).count();
+                all += u64::from(above == 0 && !records.is_empty());
+                some += u64::from(above > 1);
+                touched += u64::from(starts.clone().any(|start| start == span.end()));
+            }
+        }
+        let counts = format!("{all}, {some}, {touched}");
+        assert!(all > 1_000 && some > 2_500 && touched > 250, "{counts}");
+    }
+
     /// How many lists a walk goes through if it is accepted.
     fn lists_of(transfer: Transfer) -> usize {
         let Transfer { prp1, prp2, length } = transfer;

@@ -77,14 +77,17 @@ module _ (c : tie.After-holding) where
   abbrev place : ℕ
   place = c .holding .given .0 .1 .0
 
-  held : Came k (Span new place)
+  abbrev looked : ℕ
+  looked = c .holding .given .0 .1 .1 .0
+
+  held : Came k (Span new place looked)
   held = subst (Came k) (c .holding .given .1) (k .hold-span .ensures)
 
   fits : place + s k .args .size ≤ heldLimit
-  fits = placed (words k) (store k) (window k) (dest k) _ _ _ (s k .pre .1) (s k .pre .0) (s k .pre .2) (words′ k) (store′ k) new place held
+  fits = placed (words k) (store k) (window k) (dest k) _ _ _ (s k .pre .1) (s k .pre .0) (s k .pre .2) (words′ k) (store′ k) new place looked held
 
   few : new ≤ s k .args .size
-  few = at-most (words k) (store k) (window k) (dest k) _ _ _ (s k .pre .1) (s k .pre .0) (s k .pre .2) (words′ k) (store′ k) new place held
+  few = at-most (words k) (store k) (window k) (dest k) _ _ _ (s k .pre .1) (s k .pre .0) (s k .pre .2) (words′ k) (store′ k) new place looked held
 
 deliver-requires : tie.Need-deliver-requires
 deliver-requires c κs =
@@ -100,7 +103,7 @@ returns-3 : tie.Need-returns-3
 returns-3 c =
     let h = held-at c in
     let l = k h in
-    span-fetched (words l) (store l) (window l) (dest l) _ _ _ (s l .pre .1) (s l .pre .0) (s l .pre .2) (words′ l) (store′ l) (new h) (place h) (held h) _
+    span-fetched (words l) (store l) (window l) (dest l) _ _ _ (s l .pre .1) (s l .pre .0) (s l .pre .2) (words′ l) (store′ l) (new h) (place h) (looked h) (held h) _
     (c .before .before .deliver .ensures)
 
 pub fetch-span-spec : {M : Type 1} → statement M

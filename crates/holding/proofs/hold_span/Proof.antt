@@ -57,10 +57,13 @@ module _ (c : tie.After-plan) where
   abbrev behind : ℕ
   behind = c .plan .given .0 .1 .1 .1 .0
 
+  abbrev looked : ℕ
+  looked = c .plan .given .0 .1 .1 .1 .1 .0
+
   R : SpanRoom (now (s .args .state)) (now (s .args .store)) (s .args .command) (s .args .address) (s .args .size) (s .args .base) (now (s .args .source))
-      m fresh place behind
+      m fresh place behind looked
   R =
-      room (now (s .args .state)) (now (s .args .store)) _ _ _ (s .args .base) (now (s .args .source)) (s .pre) m fresh place behind
+      room (now (s .args .state)) (now (s .args .store)) _ _ _ (s .args .base) (now (s .args .source)) (s .pre) m fresh place behind looked
       (subst (Found (c .before .before)) (c .plan .given .1) (c .before .before .planned .ensures))
 
 mul-hold : tie.Need-mul-hold

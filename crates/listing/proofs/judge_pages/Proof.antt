@@ -1,12 +1,12 @@
 -- What the entries say, they say together.
 use Prim.Native.Nat.{ℕ}
-use mathlib.Core.Path.{_≡_, sym, _∙_}
+use mathlib.Core.Path.{_≡_, refl, sym, _∙_}
 use mathlib.Core.List.{List, [], map}
-use mathlib.Core.Bool.{Bool, true, false, cond}
+use mathlib.Core.Bool.{Bool, true, false, false≢true, cond}
 use denote.Ref.{now}
 use borrow.Author.Needs.{needs}
 use Rattle.octets.specs.Lists.{all}
-use Rattle.state.specs.Verdict.{refused, replied}
+use Rattle.state.specs.Verdict.{refused, replied, accepted}
 use Rattle.prp.specs.Pages.{pageSize}
 use Rattle.prp.specs.Entries.{entriesIn, isMultiple, wrongMultiple, judged}
 use Rattle.prp.proofs.Entries.{judged-all}
@@ -20,12 +20,13 @@ told es b e = rw (← e) (sym (judged-all pageSize es))
 returns : tie.Need-returns
 returns c =
     let a = c .before .before .before .args in
-    told (entriesIn (a .count) (now (a .entries))) true (sym (c .before .all-pages .ensures) ∙ c .if1 .taken)
+    (told (entriesIn (a .count) (now (a .entries))) true (sym (c .before .all-pages .ensures) ∙ c .if1 .taken), λ e. refl)
 
 returns-2 : tie.Need-returns-2
+unfolding accepted
 returns-2 c =
     let a = c .before .before .before .args in
-    told (entriesIn (a .count) (now (a .entries))) false (sym (c .before .all-pages .ensures) ∙ c .if1 .left)
+    (told (entriesIn (a .count) (now (a .entries))) false (sym (c .before .all-pages .ensures) ∙ c .if1 .left), λ e. absurd (false≢true e))
 
 pub judge-pages-spec : {M : Type 1} → statement M
 judge-pages-spec = tie.close (tie.spec (λ c κs. search needs) returns returns-2)

@@ -1,6 +1,6 @@
 -- PRP2 is wrong, or the laws of list pages say what its lists come to. The needs are facts of the two counts: how many entries are needed, and how
 -- many fit.
-use Prim.Native.Nat.{ℕ, _+_, _-_, _*_, _%_, _<_}
+use Prim.Native.Nat.{ℕ, _+_, _-_, _*_, _%_, _≤_, _<_}
 use native.Mathlib.Omega.{arith}
 use mathlib.Core.Path.{_≡_, ap, sym, subst, _∙_}
 use mathlib.Core.List.{List, _++_}
@@ -12,14 +12,15 @@ use borrow.Author.Needs.{needs}
 use borrow.Author.Tests.{eqb-true, eq-eqb, ne-eqb, lt-ltb, le-ltb}
 use Rattle.octets.specs.Lists.{part}
 use Rattle.endian.specs.LittleEndian.{leastFirst}
+use Rattle.state.specs.Limits.{recordLimit}
 use Rattle.cache.specs.Runs.{given}
-use Rattle.admission.specs.declared.admit.Admission.{Admission}
-use Rattle.admission.specs.declared.admit.Admission.the-variants.{Admitted}
 use Rattle.prp.specs.Pages.{Walk, needed, withList, fit, chained, firstCount, secondCount}
 use Rattle.prp.specs.Entries.{isMultiple}
 use Rattle.prp.specs.Walk.{onward, asksOf}
 use Rattle.prp.proofs.Pages.{fit-some}
-use Rattle.listing.specs.Page.{ListsPage}
+use Rattle.listing.specs.declared.Gathered.{Gathered}
+use Rattle.listing.specs.declared.Gathered.the-variants.{Entries}
+use Rattle.listing.specs.Page.{lookedBy, ListsPage}
 use Rattle.lists.specs.Lists.{asked}
 use Rattle.lists.proofs.ListPages.{wrong-second, one-page, first-refused, onward-read, two-pages}
 use Rattle.lists.proofs.gather_lists.Statement.{statement}
@@ -72,7 +73,7 @@ list-page-requires c κs = (length-take-le _ _ (omega arith), omega arith)
 
 -- a page of as many entries as its fetch was asked for
 module _ (k : tie.After-room-in-page) where
-  abbrev PageOf : (n : ℕ) (r : Admission) (words′ store′ entries′ : List ℕ) → Type 0
+  abbrev PageOf : (n : ℕ) (r : Gathered) (words′ store′ entries′ : List ℕ) → Type 0
   PageOf n r words′ store′ entries′ =
       ListsPage (words (s k)) (store (s k)) (now (s k .args .window)) (s k .args .command) (s k .args .prp2) n r words′ store′ entries′
 
@@ -120,22 +121,38 @@ module _ (c : tie.After-list-page2) where
       let all : at-two .room-in-page .result ≡ firstCount (v at-two) = omega (arith, count-is at-two, fit-is at-two) in
       subst (λ (n : ℕ). PageOf at-two n (c .list-page2 .result) (c .list-page2 .last .0) (c .list-page2 .last .1 .0) entries-two) all (c .list-page2 .ensures)
 
+-- that page, from where what came of it is asked
+abbrev paged : tie.After-slice-known6 → tie.After-list-page2
+paged l = l .before .before .before .before
+
 returns-3 : tie.Need-returns-3
 returns-3 c =
-    let p = c .before .before .before .before .before .before .before in
+    let p = paged (c .before .before) in
     let k = at-two p in
-    first-refused (words (s k)) (store (s k)) (v k) (right k) _ _ _ (entries-two p) (page-two p) (linked p) (listed k) _ (c .before .first .given .1) _
+    first-refused (words (s k)) (store (s k)) (v k) (right k) _ _ _ (entries-two p) (page-two p) (linked p) (listed k) _ (c .enum-told .given .1) _
 
 -- both pages
 module _ (c : tie.After-list-page3) where
+  abbrev read : tie.After-entry
+  read = c .before .before .before .before
+
+  abbrev told : tie.After-first
+  told = read .before .before .before
+
   abbrev first : tie.After-list-page2
-  first = c .before .before .before .before .before .before .before .before .before .before .before .before
+  first = paged (told .before .before)
 
   abbrev at-both : tie.After-room-in-page
   at-both = at-two first
 
-  admitted : first .list-page2 .result ≡ Admitted
-  admitted = c .before .before .before .before .before .before .enum-told .given .1
+  abbrev look : ℕ
+  look = told .first .given .0 .0
+
+  gathered : first .list-page2 .result ≡ Entries look
+  gathered = told .first .given .1
+
+  looked-few : look ≤ recordLimit
+  looked-few = subst (λ (r : Gathered). lookedBy r ≤ recordLimit) gathered (page-two first .few)
 
   some : 0 < fit (v at-both)
   some = fit-some (s at-both .args .prp2) (eqb-true (s at-both .args .prp2 % 8) 0 (right at-both))
@@ -147,11 +164,11 @@ module _ (c : tie.After-list-page3) where
   abbrev next : ℕ
   next = onward (asksOf (given (words (s at-both)) (store (s at-both)))) (v at-both)
 
-  onward-is : c .before .before .before .before .entry .result ≡ next
+  onward-is : read .entry .result ≡ next
   onward-is =
-      c .before .before .before .before .entry .ensures ∙ ap (λ (f : ℕ). leastFirst (part held (8 * (f - 1)) 8)) (fit-is at-both)
+      read .entry .ensures ∙ ap (λ (f : ℕ). leastFirst (part held (8 * (f - 1)) 8)) (fit-is at-both)
       ∙ onward-read (words (s at-both)) (store (s at-both)) (v at-both) (right at-both) _ _ _ (entries-two first) (page-two first) (linked first)
-      (listed at-both) admitted some _
+      (listed at-both) look gathered some _
 
   abbrev PageFrom : (a n : ℕ) → Type 0
   PageFrom a n =
@@ -164,13 +181,16 @@ module _ (c : tie.After-list-page3) where
       omega (arith, count-is at-both, fit-is at-both) in
       subst (λ (a : ℕ). PageFrom a (secondCount (v at-both))) onward-is (subst (PageFrom _) rest (c .list-page3 .ensures))
 
+add-requires : tie.Need-add-requires
+add-requires c κs = let q = c .before .before .before .before in (looked-few q, q .list-page3 .ensures .few)
+
 returns-4 : tie.Need-returns-4
 returns-4 c =
-    let q = c .before .before .before .before in
+    let q = c .before .before .before .before .before in
     let k = at-both q in
     two-pages (words (s k)) (store (s k)) (v k) (right k) _ _ _ (entries-two (first q)) (page-two (first q)) (linked (first q)) (listed k)
-    (admitted q) (some q) _ _ _ (q .list-page3 .last .1 .1 .1 .0) (second-page q) (8 * (k .room-in-page .result - 1))
-    (ap (λ (f : ℕ). 8 * (f - 1)) (fit-is k)) _ _
+    (look q) (gathered q) (some q) _ _ _ (q .list-page3 .last .1 .1 .1 .0) (second-page q) (8 * (k .room-in-page .result - 1))
+    (ap (λ (f : ℕ). 8 * (f - 1)) (fit-is k)) _ _ _ (c .add .ensures .0) (c .add .ensures .1)
 
 pub gather-lists-spec : {M : Type 1} → statement M
 gather-lists-spec =
@@ -193,9 +213,9 @@ gather-lists-spec =
     (λ c. search needs)
     (λ c. search needs)
     (λ c. search needs)
+    (λ c. search needs)
     returns-3
     (λ c. search needs)
-    (λ c. search needs)
     (λ c κs. search needs)
     (λ c. search needs)
     (λ c. search needs)
@@ -203,6 +223,7 @@ gather-lists-spec =
     (λ c. search needs)
     (λ c. search needs)
     (λ c κs. search needs)
+    add-requires
     (λ c. search needs)
     (λ c. search needs)
     returns-4)

@@ -4,7 +4,7 @@ use mathlib.Core.Bool.{true, false}
 use lib.ListN.{length}
 use denote.Ref.{now}
 use borrow.Author.Needs.{needs}
-use Rattle.state.specs.Answers.{fetchReply}
+use Rattle.state.specs.Answers.{mapFetchReply}
 use Rattle.state.specs.Verdict.{Reply, accepted}
 use Rattle.state.proofs.Verdict.{says-of}
 use Rattle.bytemap.specs.Map.{Map, mapOf}
@@ -35,7 +35,7 @@ module _ (e : tie.After-known-told2) where
 
   yes : accepted (said judged) ≡ true
   unfolding accepted
-  yes = ap accepted (says-of fetchReply (judged .judge .ensures) (e .before .answer2 .given .1))
+  yes = ap accepted (says-of mapFetchReply (judged .judge .ensures) (e .before .answer2 .given .1))
 
   fits : let a = start judged .args in
       Fits (length (now (a .words))) (length (now (a .values))) (length (now (a .window))) (length (now (a .destination))) (a .address) (a .size)
@@ -45,7 +45,7 @@ returns : tie.Need-returns
 unfolding accepted fetchMap fetchDest
 returns c =
     let j = c .before .before .before in
-    let says = says-of fetchReply (j .judge .ensures) (c .before .answer .given .1) in
+    let says = says-of mapFetchReply (j .judge .ensures) (c .before .answer .given .1) in
     let no : accepted (said j) ≡ false = ap accepted says in
     record { answer = sym says; map = rw no; delivered = rw no }
 
@@ -57,7 +57,7 @@ returns-2 c =
     let e = delivered .before .before .before .before in
     let done = delivered .deliver .ensures in
     record {
-      answer = sym (says-of fetchReply (judged e .judge .ensures) (e .before .answer2 .given .1));
+      answer = sym (says-of mapFetchReply (judged e .judge .ensures) (e .before .answer2 .given .1));
       map = rw (yes e) (ap₂ (mapOf (start (judged e) .args .flag)) (done .bits) (done .held));
       delivered = rw (yes e) (done .delivered);
     }

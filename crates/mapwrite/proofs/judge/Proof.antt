@@ -2,8 +2,8 @@
 use mathlib.Core.Path.{_≡_, ap, sym, _∙_}
 use denote.Ref.{now}
 use borrow.Author.Needs.{needs}
-use Rattle.state.specs.declared.answer.FetchAnswer.{FetchAnswer}
-use Rattle.state.specs.Answers.{fetchReply}
+use Rattle.state.specs.declared.answer.MapFetchAnswer.{MapFetchAnswer}
+use Rattle.state.specs.Answers.{mapFetchReply}
 use Rattle.bytemap.specs.Map.{Map, mapOf}
 use Rattle.bytemap.specs.Fetch.{fetchSays}
 use Rattle.bytemap.specs.OwnWrite.{ownSays}
@@ -19,12 +19,12 @@ module _ (j : tie.After-judge) where
   abbrev lent : Map
   lent = mapOf (start .args .flag) (now (start .args .words)) (now (start .args .values))
 
-  said-of-fetch : {y : FetchAnswer} → j .judge .result ≡ y
-      → fetchReply y ≡ fetchSays lent (start .args .window-len) (start .args .size) (start .args .address) (start .args .size)
-  said-of-fetch is = ap fetchReply (sym is) ∙ j .judge .ensures
+  said-of-fetch : {y : MapFetchAnswer} → j .judge .result ≡ y
+      → mapFetchReply y ≡ fetchSays lent (start .args .window-len) (start .args .size) (start .args .address) (start .args .size)
+  said-of-fetch is = ap mapFetchReply (sym is) ∙ j .judge .ensures
 
-  answered : {y : FetchAnswer} → j .judge .result ≡ y
-      → asWritten (start .args .size) (fetchReply y) ≡ ownSays lent (start .args .window-len) (start .args .address) (start .args .size)
+  answered : {y : MapFetchAnswer} → j .judge .result ≡ y
+      → asWritten (start .args .size) (mapFetchReply y) ≡ ownSays lent (start .args .window-len) (start .args .address) (start .args .size)
   answered is =
       ap (asWritten (start .args .size)) (said-of-fetch is)
       ∙ own-as-fetched lent (start .args .window-len) (start .args .address) (start .args .size)

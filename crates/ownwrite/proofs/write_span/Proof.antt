@@ -81,11 +81,14 @@ module _ (c : tie.After-holding) where
   abbrev place : ℕ
   place = c .holding .given .0 .1 .0
 
-  held : Came k (Span new place)
+  abbrev looked : ℕ
+  looked = c .holding .given .0 .1 .1 .0
+
+  held : Came k (Span new place looked)
   held = subst (Came k) (c .holding .given .1) (k .hold-span .ensures)
 
   fits : place + n (s k) ≤ heldLimit
-  fits = placed (words k) (store k) (window k) _ _ (bytes k) (s k .pre .1) (s k .pre .0) (s k .pre .2) (words′ k) (store′ k) new place held
+  fits = placed (words k) (store k) (window k) _ _ (bytes k) (s k .pre .1) (s k .pre .0) (s k .pre .2) (words′ k) (store′ k) new place looked held
 
 put-over-requires : tie.Need-put-over-requires
 put-over-requires c κs =
@@ -101,7 +104,7 @@ returns-3 c =
     let l = k h in
     let a = s l .args in
     let all = take-all (length (window l) - a .address) (bytes l) (omega (arith, A (s l) .inside)) in
-    span-written (words l) (store l) (window l) _ _ (bytes l) (s l .pre .1) (s l .pre .0) (s l .pre .2) (words′ l) (store′ l) (new h) (place h) (held h) _ _
+    span-written (words l) (store l) (window l) _ _ (bytes l) (s l .pre .1) (s l .pre .0) (s l .pre .2) (words′ l) (store′ l) (new h) (place h) (looked h) (held h) _ _
     (put .put-over .ensures) (copied .copy-at .ensures ∙ ap (overwrite (window l) (a .address)) all)
 
 pub write-span-spec : {M : Type 1} → statement M

@@ -12,14 +12,17 @@ use Rattle.state.specs.Limits.{heldLimit}
 use Rattle.state.specs.Records.{total}
 use Rattle.state.specs.Words.{commandIn}
 use Rattle.admission.specs.Plan.{bytesOf}
-use Rattle.admission.proofs.Plans.{meets, new-is, place-is, count-is, bytes-are, held-small, fresh-small}
+use Rattle.admission.proofs.Plans.{looks-is, meets, new-is, place-is, count-is, bytes-are, held-small, fresh-small}
 use Rattle.admission.proofs.plan.planned.Statement.{statement}
 use Rattle.admission.proofs.plan.planned.Tie as tie
 
 -- what the search gave
 module _ (h : tie.After-held-from) where
+  abbrev found : tie.After-search
+  found = h .before .before .before .before
+
   abbrev e : tie.Start
-  e = h .before .before .before .before .before
+  e = found .before .before
 
   abbrev a : ℕ
   a = e .args .address
@@ -34,10 +37,10 @@ module _ (h : tie.After-held-from) where
   j = join p a (a + n)
 
   abbrev m : Meeting
-  m = h .before .before .before .meeting .result
+  m = found .search .result .met
 
   met : m ≡ meeting (recordsIn p) a (a + n)
-  met = h .before .before .before .meeting .ensures .0
+  met = found .search .ensures .met
 
   fresh-is : h .before .minus2 .result ≡ m .high - m .low - m .held
   fresh-is = h .before .minus2 .ensures ∙ ap (λ (k : ℕ). k - m .held) (h .before .before .minus .ensures)
@@ -85,6 +88,7 @@ returns-3 c =
       new = fresh-is i ∙ new-is (p i) (a i) (n i) (m i) (met i);
       stands = omega (arith, place-is (p i) (a i) (n i) (m i) (met i));
       rest = i .held-from .ensures ∙ ap (λ (k : Meeting). total (drop (k .last) (recordsIn (p i)))) (meets (p i) (a i) (n i) (m i) (met i));
+      looks = found i .search .ensures .looked ∙ looks-is (p i) (a i) (n i);
       bytes = room k;
       few = omega (arith, number k);
     }

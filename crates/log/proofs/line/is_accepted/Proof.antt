@@ -23,7 +23,11 @@ returns-4 : tie.Need-returns-4
 unfolding accepted
 returns-4 c = sym (ap (λ (a : Answer). accepted (answerReply a)) (c .enum-told4 .given .1))
 
+returns-5 : tie.Need-returns-5
+unfolding accepted
+returns-5 c = sym (ap (λ (a : Answer). accepted (answerReply a)) (c .enum-told5 .given .1))
+
 pub is-accepted-spec : {M : Type 1} → statement M
 is-accepted-spec =
     tie.close
-    (tie.spec (λ c. search needs) (λ c. search needs) (λ c. search needs) (λ c. search needs) returns returns-2 returns-3 returns-4)
+    (tie.spec (λ c. search needs) (λ c. search needs) (λ c. search needs) (λ c. search needs) (λ c. search needs) returns returns-2 returns-3 returns-4 returns-5)

@@ -9,36 +9,15 @@ use borrow.Author.Needs.{needs}
 use Rattle.state.specs.declared.refusal.Refusal.{Refusal}
 use Rattle.state.specs.Refusals.{number}
 use Rattle.log.specs.declared.line.Answer.{Answer}
-use Rattle.log.specs.declared.line.Answer.the-variants.{Done, Count, Counts, Refused}
+use Rattle.log.specs.declared.line.Answer.the-variants.{Done, Count, Counts, Fetched, Refused}
 use Rattle.octets.specs.Text.{ascii, Puts}
 use Rattle.text.specs.Decimal.{decimal}
-use Rattle.state.specs.Verdict.{numbersOf}
+use Rattle.state.specs.Verdict.{Reply, numbersOf, withoutLooked}
 use Rattle.log.specs.Line.{answerReply, deliveredFields, answerFields, spaced}
 use Rattle.text.proofs.Putting.{puts-is, puts-both}
 use Rattle.log.proofs.line.Answer.{the-type}
 use Rattle.log.proofs.line.put_answer.Statement.{statement}
 use Rattle.log.proofs.line.put_answer.Tie as tie
-
-enum-known-answer : tie.Need-enum-known-answer
-enum-known-answer c = search needs
-
-slice-aggregate-put-word : tie.Need-slice-aggregate-put-word
-slice-aggregate-put-word c = search needs
-
-put-word-requires : tie.Need-put-word-requires
-put-word-requires c κs = search needs
-
-number-requires : tie.Need-number-requires
-number-requires c κs = search needs
-
-wide-requires : tie.Need-wide-requires
-wide-requires c κs = search needs
-
-put-number-requires : tie.Need-put-number-requires
-put-number-requires c κs = search needs
-
-same-length : tie.Need-same-length
-same-length c = search needs
 
 -- fields behind others
 spaced-both : (xs ys : List (List ℕ)) → spaced (xs ++ ys) ≡ spaced xs ++ spaced ys
@@ -47,8 +26,12 @@ spaced-both [] ys = refl
 spaced-both (x ∷ xs) ys = ap (λ (l : List ℕ). ascii " " ++ x ++ l) (spaced-both xs ys) ∙ sym (append-assoc (ascii " " ++ x) (spaced xs) (spaced ys))
 
 module _ (letter : ℕ) (delivered : List ℕ) where
+  -- the answer as it is printed
+  abbrev printed : Answer → Reply
+  printed answer = withoutLooked (answerReply answer)
+
   abbrev text : Answer → List ℕ
-  text answer = spaced (answerFields letter (answerReply answer) delivered)
+  text answer = spaced (answerFields letter (printed answer) delivered)
 
   refusal : (r : Refusal) (n : ℕ) → n ≡ number r → ascii " no " ++ decimal n ≡ text (Refused r)
   unfolding answerFields spaced
@@ -56,20 +39,21 @@ module _ (letter : ℕ) (delivered : List ℕ) where
 
   -- an answer that is no refusal
   fields :
-      (answer : Answer) → OneOf (0 ∷ 1 ∷ 2 ∷ []) (tagOf the-type answer)
-      → ascii "ok" ∷ map decimal (numbersOf (answerReply answer)) ++ deliveredFields letter delivered ≡ answerFields letter (answerReply answer) delivered
+      (answer : Answer) → OneOf (0 ∷ 1 ∷ 2 ∷ 3 ∷ []) (tagOf the-type answer)
+      → ascii "ok" ∷ map decimal (numbersOf (printed answer)) ++ deliveredFields letter delivered ≡ answerFields letter (printed answer) delivered
   unfolding answerFields
   fields Done tag = refl
   fields (Count n) tag = refl
   fields (Counts m n) tag = refl
-  fields (Refused r) tag = absurd (miss (0 ∷ 1 ∷ 2 ∷ []) 3 tt tag)
+  fields (Fetched fresh replayed looked) tag = refl
+  fields (Refused r) tag = absurd (miss (0 ∷ 1 ∷ 2 ∷ 3 ∷ []) 4 tt tag)
 
   reply :
-      (answer : Answer) → OneOf (0 ∷ 1 ∷ 2 ∷ []) (tagOf the-type answer)
-      → ascii " ok" ++ (spaced (map decimal (numbersOf (answerReply answer))) ++ spaced (deliveredFields letter delivered)) ≡ text answer
+      (answer : Answer) → OneOf (0 ∷ 1 ∷ 2 ∷ 3 ∷ []) (tagOf the-type answer)
+      → ascii " ok" ++ (spaced (map decimal (numbersOf (printed answer))) ++ spaced (deliveredFields letter delivered)) ≡ text answer
   unfolding spaced
   reply answer tag =
-      ap (λ (l : List ℕ). ascii " ok" ++ l) (sym (spaced-both (map decimal (numbersOf (answerReply answer))) (deliveredFields letter delivered)))
+      ap (λ (l : List ℕ). ascii " ok" ++ l) (sym (spaced-both (map decimal (numbersOf (printed answer))) (deliveredFields letter delivered)))
       ∙ ap spaced (fields answer tag)
 
 returns : tie.Need-returns
@@ -84,21 +68,6 @@ returns c =
     let no-word : Puts (now (args .out)) (args .at) (ascii " no") (word .put-word .result) (word .put-word .last .0) = word .put-word .ensures in
     puts-is (puts-both no-word (c .before .before .put-number .ensures))
     (refusal (args .letter) delivered (given .0 .0) (valued .wide .result) value ∙ ap (text (args .letter) delivered) (sym (given .1)))
-
-slice-aggregate-put-word-2 : tie.Need-slice-aggregate-put-word-2
-slice-aggregate-put-word-2 c = search needs
-
-put-word-requires-2 : tie.Need-put-word-requires-2
-put-word-requires-2 c κs = search needs
-
-put-numbers-requires : tie.Need-put-numbers-requires
-put-numbers-requires c κs = search needs
-
-put-delivered-requires : tie.Need-put-delivered-requires
-put-delivered-requires c κs = search needs
-
-same-length-2 : tie.Need-same-length-2
-same-length-2 c = search needs
 
 returns-2 : tie.Need-returns-2
 returns-2 c =
@@ -115,17 +84,17 @@ pub put-answer-spec : {M : Type 1} → statement M
 put-answer-spec =
     tie.close
     (tie.spec
-    enum-known-answer
-    slice-aggregate-put-word
-    put-word-requires
-    number-requires
-    wide-requires
-    put-number-requires
-    same-length
+    (λ c. search needs)
+    (λ c. search needs)
+    (λ c κs. search needs)
+    (λ c κs. search needs)
+    (λ c κs. search needs)
+    (λ c κs. search needs)
+    (λ c. search needs)
     returns
-    slice-aggregate-put-word-2
-    put-word-requires-2
-    put-numbers-requires
-    put-delivered-requires
-    same-length-2
+    (λ c. search needs)
+    (λ c κs. search needs)
+    (λ c κs. search needs)
+    (λ c κs. search needs)
+    (λ c. search needs)
     returns-2)
