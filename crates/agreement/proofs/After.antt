@@ -88,7 +88,8 @@ module _ {c : ℕ} {m : Map} {j : Machine} (B : Beside c m j) (low : c < command
   fetch-dest-same : (a n : ℕ) (dest window : List ℕ) → length window ≤ mapLimit → fetchDest m window dest a n ≡ destAfter j (fetch c a n dest window)
   unfolding fetchDest fetchDestByRecords
   fetch-dest-same a n dest window small =
-      go (accepted (fetchSays m (length window) (length dest) a n)) refl (taken-same B low (bytemap.fetch a n dest window) (le-leb (length window) mapLimit small))
+      go (accepted (fetchSays m (length window) (length dest) a n)) refl
+      (taken-same B low (bytemap.fetch a n dest window) (le-leb (length window) mapLimit small))
     where
       go : (b : Bool) → accepted (fetchSays m (length window) (length dest) a n) ≡ b
           → accepted (fetchSays m (length window) (length dest) a n) ≡ accepted (says j (fetch c a n dest window))

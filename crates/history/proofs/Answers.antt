@@ -99,7 +99,9 @@ module _ {storeLen : ℕ} {m : Machine} {past : List Event} (T : Tied storeLen m
   -- and the replies
   fetch-told : (a n : ℕ) → replied (fresh rs a n ∷ replayed rs a n ∷ looked rs a n ∷ [])
       ≡ replied (firstCount past c a n ∷ replayCount past c a n ∷ looked (runsOf past c) a n ∷ [])
-  fetch-told a n = rw (fresh-told a n, replayed-told a n) (ap (λ (ts : List Record). replied (firstCount past c a n ∷ replayCount past c a n ∷ looked ts a n ∷ [])) runs-told)
+  fetch-told a n =
+      rw (fresh-told a n, replayed-told a n)
+      (ap (λ (ts : List Record). replied (firstCount past c a n ∷ replayCount past c a n ∷ looked ts a n ∷ [])) runs-told)
 
   end-told : replied (length rs ∷ total rs ∷ []) ≡ replied (length (runsOf past c) ∷ heldCount past c ∷ [])
   end-told = ap₂ (λ k b. replied (k ∷ b ∷ [])) (ap length runs-told) total-told

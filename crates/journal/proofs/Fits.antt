@@ -37,7 +37,8 @@ unfolding verdict accepted all
 verdict-short [] ns low reply = reply refl
 verdict-short (c ∷ cs) ns low reply = go (c .applies) refl (verdict-short cs ns (and-right (ltb (c .number) 100) _ low))
   where
-    go : (b : Bool) → c .applies ≡ b → ((accepted (verdict cs (replied ns)) ≡ true → Short (replied (take 2 ns))) → Short (withoutLooked (verdict cs (replied ns))))
+    go : (b : Bool) → c .applies ≡ b
+        → ((accepted (verdict cs (replied ns)) ≡ true → Short (replied (take 2 ns))) → Short (withoutLooked (verdict cs (replied ns))))
         → Short (withoutLooked (verdict (c ∷ cs) (replied ns)))
     go true e rest = rw e (refusal (ltb-true _ _ (and-left (ltb (c .number) 100) _ low)))
     go false e rest = rw e (rest (λ a. reply (rw e a)))

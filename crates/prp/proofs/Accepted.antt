@@ -108,14 +108,8 @@ module _ (m : Machine) (w : Walk) where
   -- what the list fetches looked at, each where the one before it left the machine
   looked-sum : accepted (walkSays m w) ≡ true → lookedBehind (asksOf m) w ≡ sum (map lookedIn (along says m (walkFetches m w)))
   unfolding walkSays walkFetches along ran sum
-  looked-sum e = go (listing asks w checks e)
+  looked-sum e = go (listing (asksOf m) w (walkChecks m w) e)
     where
-      asks : Asks
-      asks = asksOf m
-
-      checks : List Check
-      checks = walkChecks m w
-
       go : Listing (asksOf m) w (walkChecks m w)
           → lookedBehind (asksOf m) w ≡ sum (map lookedIn (along says m (fetchesBy (asksOf m) w (walkChecks m w))))
       go (noList e none) = rw none (looked-none (asksOf m) w e)

@@ -5,7 +5,8 @@ use mathlib.Core.List.{List, []}
 use Rattle.state.specs.Verdict.{replied, Check, verdict}
 use Rattle.cache.specs.Runs.{Machine}
 use Rattle.prp.specs.Pages.{Walk, needed, spanLengths}
-use Rattle.prp.specs.Walk.{Asks, behindSays, pageEntries, lookedBehind, answerBy, fetchesBy, asksOf, walkSays, walkFetches, walkScratch, walkAddresses, walkLengths}
+use Rattle.prp.specs.Walk.{Asks, behindSays, pageEntries, lookedBehind, answerBy, fetchesBy, asksOf}
+use Rattle.prp.specs.Walk.{walkSays, walkFetches, walkScratch, walkAddresses, walkLengths}
 use Rattle.prp.specs.Claims.{withPrp2, SecondUnread}
 
 module _ (asks : Asks) (w : Walk) (none : needed w ≡ 0) where

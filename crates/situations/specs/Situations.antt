@@ -103,10 +103,13 @@ J =
     fetches 16 2 2 0 0 (is (16 ∔ 2 ∷ []))
     ∷ calls
     (record { call = ownWrite 0 16 (201 ∷ 202 ∷ []) window; answer = replied (2 ∷ 0 ∷ []); bytes = []; records = is (16 ∔ 2 ∷ []); window = is written })
-    ∷ calls (record { call = fetch 0 16 2 dest written; answer = replied (0 ∷ 2 ∷ 1 ∷ []); bytes = 201 ∷ 202 ∷ []; records = is (16 ∔ 2 ∷ []); window = unsaid })
-    ∷ calls (record { call = fetch 0 16 2 dest window; answer = replied (0 ∷ 2 ∷ 1 ∷ []); bytes = 201 ∷ 202 ∷ []; records = is (16 ∔ 2 ∷ []); window = unsaid })
+    ∷ calls
+    (record { call = fetch 0 16 2 dest written; answer = replied (0 ∷ 2 ∷ 1 ∷ []); bytes = 201 ∷ 202 ∷ []; records = is (16 ∔ 2 ∷ []); window = unsaid })
+    ∷ calls
+    (record { call = fetch 0 16 2 dest window; answer = replied (0 ∷ 2 ∷ 1 ∷ []); bytes = 201 ∷ 202 ∷ []; records = is (16 ∔ 2 ∷ []); window = unsaid })
     ∷ calls (record { call = begin 1; answer = replied []; bytes = []; records = is (16 ∔ 2 ∷ []); window = unsaid })
-    ∷ calls (record { call = fetch 1 16 2 dest window; answer = replied (2 ∷ 0 ∷ 0 ∷ []); bytes = 16 ∷ 17 ∷ []; records = is (16 ∔ 2 ∷ []); window = unsaid })
+    ∷ calls
+    (record { call = fetch 1 16 2 dest window; answer = replied (2 ∷ 0 ∷ 0 ∷ []); bytes = 16 ∷ 17 ∷ []; records = is (16 ∔ 2 ∷ []); window = unsaid })
     ∷ []
 
 -- the same two bytes written by the host, the command ended and begun anew: it gets the new ones
@@ -117,7 +120,8 @@ K =
     ∷ calls (record { call = hostWrite 16 (201 ∷ 202 ∷ []) window; answer = replied (2 ∷ []); bytes = []; records = unsaid; window = is written })
     ∷ calls (record { call = end 0; answer = replied (1 ∷ 2 ∷ []); bytes = []; records = is []; window = unsaid })
     ∷ opens
-    ∷ calls (record { call = fetch 0 16 2 dest written; answer = replied (2 ∷ 0 ∷ 0 ∷ []); bytes = 201 ∷ 202 ∷ []; records = is (16 ∔ 2 ∷ []); window = unsaid })
+    ∷ calls
+    (record { call = fetch 0 16 2 dest written; answer = replied (2 ∷ 0 ∷ 0 ∷ []); bytes = 201 ∷ 202 ∷ []; records = is (16 ∔ 2 ∷ []); window = unsaid })
     ∷ []
 
 unfoldable pub situations : List (List Step)

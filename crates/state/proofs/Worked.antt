@@ -5,7 +5,8 @@ use mathlib.Core.Path.{_≡_, refl}
 use mathlib.Core.List.{[], _∷_, map}
 use mathlib.Core.Bool.{true, false}
 use Rattle.state.specs.declared.Record.{Record}
-use Rattle.state.specs.Records.{held, span, addresses, total, place, countFresh, fresh, countHeld, replayed, keep, lowest, highest, joined, lookedUpTo, looked}
+use Rattle.state.specs.Records.{held, span, addresses, total, place, countFresh, fresh, countHeld, replayed, keep, lowest, highest, joined}
+use Rattle.state.specs.Records.{lookedUpTo, looked}
 use Rattle.state.specs.State.{ascending}
 use Rattle.state.specs.Runs.{inFront, runsFrom}
 

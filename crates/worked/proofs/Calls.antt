@@ -77,15 +77,14 @@ bytes-delivered : along delivers (start (replicate 32768 3)) calls
 unfolding run calls is-run fetchDest
 bytes-delivered = refl
 
--- the counts owed are those replied, by the claim and without a search of all addresses for runs
-owed-replied : told countsOwed [] run ≡ told countsReplied [] run
-owed-replied =
-    sym (ap (told countsOwed []) is-run) ∙ sym (counts-tie (replicate 32768 3) calls) ∙ ap (told countsReplied []) is-run
+-- the counts owed in a run are those replied, by the claim and without a search of all addresses for runs of them
+pub owed-replied : (store : List ℕ) (ps : List Call) (es : List Event) → journal store ps ≡ es → told countsOwed [] es ≡ told countsReplied [] es
+owed-replied store ps es is = sym (ap (told countsOwed []) is) ∙ sym (counts-tie store ps) ∙ ap (told countsReplied []) is
 
 counts-owed : told countsOwed [] run
     ≡ [] ∷ [] ∷ (2 ∷ 0 ∷ 0 ∷ []) ∷ (1 ∷ 0 ∷ 0 ∷ []) ∷ (1 ∷ 2 ∷ 1 ∷ []) ∷ [] ∷ [] ∷ [] ∷ [] ∷ [] ∷ (1 ∷ 0 ∷ 0 ∷ []) ∷ [] ∷ []
 unfolding run told accepted
-counts-owed = owed-replied
+counts-owed = owed-replied (replicate 32768 3) calls run is-run
 
 sums-owed : told sumOwed [] run ≡ [] ∷ [] ∷ [] ∷ [] ∷ [] ∷ [] ∷ [] ∷ [] ∷ (3 ∷ []) ∷ [] ∷ [] ∷ (1 ∷ []) ∷ []
 unfolding run told add freshSince accepted

@@ -2,7 +2,7 @@
 -- another host byte at each; another command reads the window's bytes; a write past the window, one of no bytes and one by a closed command;
 -- and what is written is forgotten with the end.
 use Prim.Native.Nat.{ℕ}
-use mathlib.Core.Path.{_≡_, refl, ap, sym, _∙_}
+use mathlib.Core.Path.{_≡_, refl}
 use mathlib.Core.List.{List, [], _∷_, map}
 use lib.ListN.{replicate, take}
 use Rattle.octets.specs.Lists.{all}
@@ -18,10 +18,10 @@ use Rattle.cache.proofs.Claims.{own-as-fetched}
 use Rattle.history.specs.Journal.{Event, journal, told, backwards}
 use Rattle.history.specs.Firsts.{Value, none, some, remember, memory, writeIn, lastWrite, fetchIn, firstFetch, valueSince}
 use Rattle.history.specs.Firsts.{First, firstsAmong, firstsBy, firsts, owedBy, owed}
-use Rattle.history.specs.Counts.{countsReplied, countsOwed, add, freshSince, sumOwed}
+use Rattle.history.specs.Counts.{countsOwed, add, freshSince, sumOwed}
 use Rattle.history.specs.Claims.{common}
-use Rattle.history.proofs.Counts.{counts-tie}
 use Rattle.history.proofs.EqualRuns.{equal-runs}
+use Rattle.worked.proofs.Calls.{owed-replied}
 
 abbrev dest : List ℕ
 dest = 0 ∷ 0 ∷ 0 ∷ []
@@ -85,15 +85,10 @@ first-fetches : told firsts [] run
 unfolding run told remember memory firstsAmong firstsBy accepted span
 first-fetches = refl
 
--- the counts owed are those replied, by the claim and without a search of all addresses for runs
-owed-replied : told countsOwed [] run ≡ told countsReplied [] run
-owed-replied =
-    sym (ap (told countsOwed []) is-run) ∙ sym (counts-tie (replicate 32768 3) calls) ∙ ap (told countsReplied []) is-run
-
 counts-owed : told countsOwed [] run
     ≡ [] ∷ [] ∷ (2 ∷ 0 ∷ 0 ∷ []) ∷ (2 ∷ 1 ∷ []) ∷ (0 ∷ 3 ∷ 1 ∷ []) ∷ (2 ∷ 0 ∷ 0 ∷ []) ∷ [] ∷ (0 ∷ 0 ∷ []) ∷ [] ∷ [] ∷ [] ∷ (1 ∷ 0 ∷ 0 ∷ []) ∷ []
 unfolding run told accepted
-counts-owed = owed-replied
+counts-owed = owed-replied (replicate 32768 3) calls run is-run
 
 -- two addresses fresh, one that was written and not held before, and none
 sums-owed : told sumOwed [] run ≡ [] ∷ [] ∷ [] ∷ [] ∷ [] ∷ [] ∷ [] ∷ [] ∷ [] ∷ (3 ∷ []) ∷ [] ∷ [] ∷ []

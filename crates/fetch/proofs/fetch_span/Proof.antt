@@ -103,7 +103,8 @@ returns-3 : tie.Need-returns-3
 returns-3 c =
     let h = held-at c in
     let l = k h in
-    span-fetched (words l) (store l) (window l) (dest l) _ _ _ (s l .pre .1) (s l .pre .0) (s l .pre .2) (words′ l) (store′ l) (new h) (place h) (looked h) (held h) _
+    span-fetched (words l) (store l) (window l) (dest l) _ _ _ (s l .pre .1) (s l .pre .0) (s l .pre .2) (words′ l) (store′ l)
+    (new h) (place h) (looked h) (held h) _
     (c .before .before .deliver .ensures)
 
 pub fetch-span-spec : {M : Type 1} → statement M

@@ -104,7 +104,8 @@ returns-3 c =
     let l = k h in
     let a = s l .args in
     let all = take-all (length (window l) - a .address) (bytes l) (omega (arith, A (s l) .inside)) in
-    span-written (words l) (store l) (window l) _ _ (bytes l) (s l .pre .1) (s l .pre .0) (s l .pre .2) (words′ l) (store′ l) (new h) (place h) (looked h) (held h) _ _
+    span-written (words l) (store l) (window l) _ _ (bytes l) (s l .pre .1) (s l .pre .0) (s l .pre .2) (words′ l) (store′ l)
+    (new h) (place h) (looked h) (held h) _ _
     (put .put-over .ensures) (copied .copy-at .ensures ∙ ap (overwrite (window l) (a .address)) all)
 
 pub write-span-spec : {M : Type 1} → statement M

@@ -30,4 +30,14 @@ returns-5 c = sym (ap (λ (a : Answer). accepted (answerReply a)) (c .enum-told5
 pub is-accepted-spec : {M : Type 1} → statement M
 is-accepted-spec =
     tie.close
-    (tie.spec (λ c. search needs) (λ c. search needs) (λ c. search needs) (λ c. search needs) (λ c. search needs) returns returns-2 returns-3 returns-4 returns-5)
+    (tie.spec
+    (λ c. search needs)
+    (λ c. search needs)
+    (λ c. search needs)
+    (λ c. search needs)
+    (λ c. search needs)
+    returns
+    returns-2
+    returns-3
+    returns-4
+    returns-5)
