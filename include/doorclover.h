@@ -65,8 +65,8 @@
  * Stack, in bytes, arguments on it included and the return address not. It was measured on a painted
  * stack, and is not proved. What your memcpy and memset take comes on top.
  *     fresh   0      begin 128      host write  56      frame read   168
- *     show   88      fetch 520      own write  584      frame write   48
- *                    end   176      walk       696      journal     3064
+ *     show   88      fetch 544      own write  608      frame write   48
+ *                    end   176      walk       800      journal     3104
  *     of the byte map: fresh 16, begin 144, fetch 424, own write 424, end 176
  * DOORCLOVER_STACK and DOORCLOVER_JOURNAL_STACK are these with some room.
  *
@@ -351,7 +351,7 @@ DOORCLOVER_USE_REPLY doorclover_written doorclover_own_write(
  * whatever the host has written over the entries. No other byte of the window is read. The pages
  * themselves may lie anywhere, in the window or not, and 0 is an address too.
  *
- * The reply is the number of spans. Span i has its address in addresses[i] and its length in lengths[i].
+ * spans is their number. Span i has its address in addresses[i] and its length in lengths[i].
  * The lengths add up to the transfer, and neighbours stay two spans. Places behind the spans do not change.
  * looked_at is the sum over the list fetches, of which the second looks at the records that the first left.
  *

@@ -38,6 +38,15 @@ module _ (e : ℕ) where
   counted-none r rs next h =
       ap length (keep-no isUpTo r rs (lt-leb (r .start) e h) ∙ keep-none isUpTo (suc (past r)) rs next (λ t from. lt-leb (t .start) e (omega arith)))
 
+  up-to-bound : (rs : List Record) → lookedUpTo e rs ≤ suc (startingUpTo e rs)
+  unfolding lookedUpTo
+  up-to-bound [] = omega arith
+  up-to-bound (r ∷ rs) = go (starts e r) (up-to-bound rs)
+    where
+      go : Starts e r → lookedUpTo e rs ≤ suc (startingUpTo e rs) → lookedUpTo e (r ∷ rs) ≤ suc (startingUpTo e (r ∷ rs))
+      go (above h) rest = rw (lt-ltb e (r .start) h) (omega arith)
+      go (upTo h) rest = rw (le-ltb e (r .start) h) (omega (arith, counted-up r rs h))
+
   up-to-exactly : (lo : ℕ) (rs : List Record) → ascending lo rs ≡ true → lookedUpTo e rs ≡ min (suc (startingUpTo e rs)) (length rs)
   unfolding lookedUpTo
   up-to-exactly lo [] up = omega arith
@@ -48,24 +57,15 @@ module _ (e : ℕ) where
       go (above h) next rest = rw (lt-ltb e (r .start) h) (omega (arith, counted-none r rs next h))
       go (upTo h) next rest = rw (le-ltb e (r .start) h) (omega (arith, counted-up r rs h))
 
-  up-to-bound : (rs : List Record) → lookedUpTo e rs ≤ suc (startingUpTo e rs)
-  unfolding lookedUpTo
-  up-to-bound [] = omega arith
-  up-to-bound (r ∷ rs) = go (starts e r) (up-to-bound rs)
-    where
-      go : Starts e r → lookedUpTo e rs ≤ suc (startingUpTo e rs) → lookedUpTo e (r ∷ rs) ≤ suc (startingUpTo e (r ∷ rs))
-      go (above h) rest = rw (lt-ltb e (r .start) h) (omega arith)
-      go (upTo h) rest = rw (le-ltb e (r .start) h) (omega (arith, counted-up r rs h))
+pub looked-bound : LookedBound
+unfolding looked
+looked-bound rs a zero = omega arith
+looked-bound rs a (suc n) = up-to-bound (a + suc n) rs
 
 pub looked-exactly : LookedExactly
 unfolding looked
 looked-exactly rs a zero up = record { some = λ h. absurd (omega arith); none = λ h. refl }
 looked-exactly rs a (suc n) up = record { some = λ h. up-to-exactly (a + suc n) 0 rs up; none = λ h. absurd (omega arith) }
-
-pub looked-bound : LookedBound
-unfolding looked
-looked-bound rs a zero = omega arith
-looked-bound rs a (suc n) = up-to-bound (a + suc n) rs
 
 -- the record at which the search stops is looked at, and so is one that it passes
 module _ (e : ℕ) (r : Record) (rs : List Record) where

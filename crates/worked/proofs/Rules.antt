@@ -1,5 +1,5 @@
 -- Claims at work. The equal-runs rule: a count of 4, at address 2, is fetched and checked, the host writes over it, and the list behind
--- the count is fetched together with it. Records told: what a command holds. Store told: what an end leaves.
+-- the count is fetched together with it. Records told: what a command holds. Store told: what an end leaves. Records looked at: how many.
 use Prim.Native.Nat.{ℕ, _<_}
 use native.Mathlib.Omega.{arith}
 use mathlib.Core.Path.{_≡_, refl, ap, _∙_}
@@ -9,9 +9,11 @@ use mathlib.Core.Logic.{_≢_}
 use lib.ListN.{getD, replicate}
 use Rattle.octets.specs.Lists.{all}
 use Rattle.state.specs.declared.Record.{Record}
-use Rattle.state.specs.Records.{held, span, addresses, total, place, countFresh, countHeld, keep, lowest, highest, joined}
+use Rattle.state.specs.Records.{held, span, addresses, total, place, countFresh, countHeld, keep, lowest, highest, joined, looked}
 use Rattle.state.specs.State.{recordsOf, isOpen, ascending, commandHolds, holds}
 use Rattle.state.specs.Verdict.{verdict, accepted}
+use Rattle.state.specs.Claims.{Looks}
+use Rattle.state.proofs.Looked.{looked-exactly}
 use Rattle.state.proofs.Runs.{runs-are-runs}
 use Rattle.cache.specs.Begin.{beginSays, beginState, beginStore}
 use Rattle.cache.specs.Fetch.{fetchSays, fetchState, fetchStore, fetchDest}
@@ -100,3 +102,14 @@ peek = begin 1 ∷ fetch 1 2 1 dest (counting 4) ∷ end 1 ∷ []
 store-after-end : ran (start sevens) peek .store ≡ replicate 4096 7 ++ replicate 4096 0 ++ replicate 24576 7
 unfolding same-firsts sevens peek endSays endState endStore backwards flatMap phase phaseBy
 store-after-end = store-told sevens peek
+
+-- Records looked at: of the records 0+1, 2+1, 4+1 and 6+1 a fetch of 0+1 looks at two, one of 0+2, at whose end a record starts, at three, and one
+-- of 9+1 at all four. The claim counts starts, and so none of these is searched for.
+evens : List Record
+evens = let at : ℕ → Record = λ a. record { start = a; len = 1 } in at 0 ∷ at 2 ∷ at 4 ∷ at 6 ∷ []
+
+looked-of-evens : (looked evens 0 1 ≡ 2) × (looked evens 0 2 ≡ 3) × (looked evens 9 1 ≡ 4)
+unfolding evens keep ascending
+looked-of-evens =
+    let looks : (a n : ℕ) → Looks evens a n = λ a n. looked-exactly evens a n refl in
+    (looks 0 1 .some (omega arith), looks 0 2 .some (omega arith), looks 9 1 .some (omega arith))
