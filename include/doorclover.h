@@ -25,8 +25,7 @@
  *     said of the call has happened. Refused: the status is the lowest number that applies, the
  *     other members of the reply are 0, and no byte of state, store, map, window, destination or
  *     output has changed. (A journal runs many calls; this holds for each of them. A map's fetch and
- *     own write judge 30 in the place of 7, and so give it before 9. What takes a release of frames judges
- *     33 first of all, and the frame writer 34 between 5 and 6.)
+ *     own write judge 30 in the place of 7, and so give it before 9.)
  *   - A walk, which makes fetches itself, is the exception. It judges in an order of its own. Refused, it
  *     leaves window, addresses and lengths as they were, but what fetches of it that were accepted by then
  *     hold stays held; and all of its scratch is zero, unless it was refused before PRP1 was judged.
@@ -96,10 +95,7 @@
 extern "C" {
 #endif
 
-/*
- * The number of this interface; doorclover_release() gives that of the archive. It has nothing to do with the
- * releases of frames, DOORCLOVER_FRAMES_1 and DOORCLOVER_FRAMES_2.
- */
+/* The number of this interface; doorclover_release() gives that of the archive. */
 #define DOORCLOVER_RELEASE 3u
 
 /* Limits. */
@@ -121,10 +117,6 @@ extern "C" {
 
 #define DOORCLOVER_MAP_ADDRESSES 4096u  /* addresses of a byte map, and so its longest window */
 #define DOORCLOVER_MAP_WORDS     64u    /* words of a byte map, with a bit for each address */
-
-/* The releases of frames, for the functions that end in _as; see "Step frames" below. */
-#define DOORCLOVER_FRAMES_1 1u
-#define DOORCLOVER_FRAMES_2 2u
 
 /* Stack that is enough for any call but the journal's, and for the journal's. */
 #define DOORCLOVER_STACK         1024u
@@ -161,11 +153,7 @@ enum {
 
     /* because of the input, by a walk alone */
     DOORCLOVER_TRANSFER_OUT_OF_RANGE = 31,  /* transfer of no bytes, or of more than 65,536 */
-    DOORCLOVER_ENTRY_MISALIGNED      = 32,  /* PRP1, PRP2 or an entry is not the multiple it must be */
-
-    /* because of the input, by what takes a release of frames alone */
-    DOORCLOVER_UNKNOWN_RELEASE = 33,  /* the release is neither 1 nor 2 */
-    DOORCLOVER_LENGTH_ZERO     = 34   /* frame writer, release 2: a fetch or a write of length 0 */
+    DOORCLOVER_ENTRY_MISALIGNED      = 32   /* PRP1, PRP2 or an entry is not the multiple it must be */
 };
 
 /* The kinds of a step frame. */
@@ -393,53 +381,19 @@ DOORCLOVER_USE_REPLY doorclover_shown doorclover_show(
     const doorclover_state *state, size_t command, size_t index);
 
 /*
- * Step frames: a call in a head of 5 bytes and, for the two writes, the data behind it. The fields of a head
- * stand one behind the other, each with its most significant bit first, and so many bits wide:
- *
- *                 kind   command   address   length   spare
- *     release 1      3         3        16       13       5
- *     release 2      3         3        16       12       6
- *
- * Spare bits are zero. Begin and end have address 0, and a host write has command 0. What the length field
- * holds:
- *
- *                 begin, end   fetch, host write, own write
- *     release 1            0   the length, 0 to 4,096
- *     release 2            0   the length less one, of a length of 1 to 4,096
- *
- * In both releases the length of begin and end is 0, and the data are as many bytes as the length. No bit of
- * a frame says its release: the caller names it, and read in the other release a frame may be another step,
- * or none. Release 1 stays for journals that are there already.
+ * Step frames: a call in 5 bytes, most significant bit first. Kind 3 bits, command 3, address 16,
+ * length 13, and 5 spare bits that are zero. Begin and end have address and length 0, a host write
+ * has command 0. The data of the two writes, as many bytes as the length, follow the 5.
  */
 
 /*
  * Reads the frame at the front of the bytes; what stands behind it is not looked at.
- * Refused with 33, 1, 2, 3, 4, 5, the first of them in this order that applies; with 4 in release 1 alone,
- * since the length field of release 2 stands for no more than 4,096.
- */
-DOORCLOVER_USE_REPLY doorclover_step doorclover_frame_read_as(
-    size_t release, const uint8_t *frame, size_t size);
-
-/*
- * The same in release 1.
  * Refused with 1 to 5.
  */
 DOORCLOVER_USE_REPLY doorclover_step doorclover_frame_read(const uint8_t *frame, size_t size);
 
 /*
  * Writes a frame to the front of the output; behind it the output does not change.
- * Refused with 33, 2, 3, 4, 5, 34, 6, 10, 11, the first of them in this order that applies. 34 stands for a
- * fetch or a write of length 0, in release 2 alone. A begin or an end with a length is refused with 3,
- * however long that is.
- */
-DOORCLOVER_USE_REPLY doorclover_framed doorclover_frame_write_as(
-    size_t release,
-    uint8_t *output, size_t output_size,
-    size_t kind, size_t command, size_t address, size_t length,
-    const uint8_t *data, size_t data_size);
-
-/*
- * The same in release 1.
  * Refused with 2 to 6, 10, 11.
  */
 DOORCLOVER_USE_REPLY doorclover_framed doorclover_frame_write(
@@ -451,18 +405,7 @@ DOORCLOVER_USE_REPLY doorclover_framed doorclover_frame_write(
  * Carries out a journal, frame after frame, from the fresh state, and writes its log to the output: a
  * line for each frame. A log that does not fit is cut, and the run goes on. An unreadable frame has
  * the last line and ends the run. Store, window and destination are handed on from frame to frame.
- * All frames are of the one release. If that is neither 1 nor 2 the first frame is unreadable, with 33. An
- * empty journal has an empty log, whatever the release is. The lines of a log do not tell the release.
  */
-DOORCLOVER_USE_REPLY doorclover_replayed doorclover_journal_replay_as(
-    size_t release,
-    const uint8_t *journal, size_t journal_size,
-    uint8_t *store, size_t store_size,
-    uint8_t *window, size_t window_size,
-    uint8_t *destination, size_t destination_size,
-    uint8_t *output, size_t output_size);
-
-/* The same in release 1. */
 DOORCLOVER_USE_REPLY doorclover_replayed doorclover_journal_replay(
     const uint8_t *journal, size_t journal_size,
     uint8_t *store, size_t store_size,

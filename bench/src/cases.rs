@@ -56,10 +56,9 @@ pub enum Group {
 pub enum Subject {
     /// A call or several, again and again after others.
     Calls { before: Vec<Call>, unit: Vec<Call> },
-    /// Two journals of a release, one of which has the frames of interest more. The
-    /// log may find no room.
+    /// Two journals, one of which has the frames of interest more. The log may
+    /// find no room.
     Journals {
-        release: usize,
         whole: Vec<u8>,
         base: Vec<u8>,
         logged: bool,

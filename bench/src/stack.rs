@@ -9,7 +9,6 @@ use std::hint::black_box;
 
 use boundary::{ByteMap, WORDS};
 use compare::journals::journal;
-use sampling::layout::head;
 
 use crate::answer::Answer;
 use crate::call::{make, Call, Sink, Unread};
@@ -43,15 +42,9 @@ pub fn depths(cases: &[Case]) -> Vec<Depth> {
         "walk",
     ];
     depths.extend(calls.map(|function| depth(function, of_call(cases, function))));
-    for (function, release) in [("frame read", 1), ("frame read, release 2", 2)] {
-        depths.push(depth(function, of_reader(release)));
-    }
-    for (function, release) in [("frame write", 1), ("frame write, release 2", 2)] {
-        depths.push(depth(function, of_writer(release)));
-    }
-    for (function, release) in [("journal replay", 1), ("journal replay, release 2", 2)] {
-        depths.push(depth(function, of_journals(cases, release)));
-    }
+    depths.push(depth("frame read", of_reader()));
+    depths.push(depth("frame write", of_writer()));
+    depths.push(depth("journal replay", of_journals(cases)));
     let mut map = ByteMap::FRESH;
     depths.push(depth(
         "map fresh",
@@ -127,53 +120,41 @@ fn of_list<C: Cache>(before: &[Call], unit: &[Call], name: &str) -> Option<usize
     depths.max()
 }
 
-/// Frames of every kind, with the longest data. The first release has a function of
-/// its own here and below.
-fn of_reader(release: usize) -> usize {
+/// Frames of every kind, with the longest data.
+fn of_reader() -> usize {
     let frames = (0..8).map(|kind| {
-        let mut frame = head(release as u64, kind, 0, 0, 0, 0);
+        let mut frame = sampling::layout::frame(kind, 0, 0, 0, &[]);
         frame.extend([7; 4_096]);
         taken(&mut || {
-            match release {
-                1 => boundary::frame_read(&frame),
-                _ => boundary::frame_read_as(release, &frame),
-            };
+            boundary::frame_read(&frame);
         })
     });
     frames.max().unwrap_or(0)
 }
 
-fn of_writer(release: usize) -> usize {
+fn of_writer() -> usize {
     let mut output = vec![0; 8_192];
     let kinds = (0..8).map(|kind| {
         let data = &[7; 4_096][..if kind > 2 { 4_096 } else { 0 }];
-        let output = &mut output;
         taken(&mut || {
-            match release {
-                1 => boundary::frame_write(output, kind, 0, 0, data.len(), data),
-                _ => boundary::frame_write_as(release, output, kind, 0, 0, data.len(), data),
-            };
+            boundary::frame_write(&mut output, kind, 0, 0, data.len(), data);
         })
     });
     kinds.max().unwrap_or(0)
 }
 
-/// The journals of a release in the cases, and random ones.
-fn of_journals(cases: &[Case], release: usize) -> usize {
+/// The journals of the cases, and random ones.
+fn of_journals(cases: &[Case]) -> usize {
     let of_cases = cases.iter().filter_map(|case| match &case.subject {
-        Subject::Journals {
-            release: found,
-            whole,
-            ..
-        } => Some(whole.clone()).filter(|_| *found == release),
+        Subject::Journals { whole, .. } => Some(whole.clone()),
         Subject::Calls { .. } => None,
     });
-    let random = (0..JOURNALS).map(|seed| journal(release as u64, seed).bytes);
+    let random = (0..JOURNALS).map(|seed| journal(seed).bytes);
     let replay = replay_of(Column::Proved).expect("the proved library runs journals");
     let depths = of_cases.chain(random).map(|journal| {
         let mut desk = Desk::new(true);
         taken(&mut || {
-            replay(&mut desk, release, &journal);
+            replay(&mut desk, &journal);
         })
     });
     depths.max().unwrap_or(0)

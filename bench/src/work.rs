@@ -4,7 +4,7 @@ use boundary::ByteMap;
 use peers::bitmap::Bitmap;
 use peers::ranges::Ranges;
 use plain::byte_map::ByteMap as Plain;
-use plain::journal::{replay, replay_as, Run};
+use plain::journal::{replay, Run};
 
 use crate::call::{make, Call, Unread};
 use crate::cases::{Case, Group, Subject};
@@ -67,14 +67,13 @@ pub fn works(case: &Case, column: Column) -> Option<[Box<dyn Work>; 2]> {
         }
         (
             Subject::Journals {
-                release,
                 whole,
                 base,
                 logged,
             },
             _,
         ) => {
-            let of = |journal: &Vec<u8>| journals(column, *release, journal, *logged);
+            let of = |journal: &Vec<u8>| journals(column, journal, *logged);
             Some([of(whole)?, of(base)?])
         }
         (Subject::Calls { before, unit }, _) => {
@@ -136,8 +135,8 @@ impl<C: Cache> Work for Calls<C> {
     }
 }
 
-/// A way to run a journal of a release. The first has a function of its own.
-pub type Replay = fn(&mut Desk, usize, &[u8]) -> Run;
+/// A way to run a journal.
+pub type Replay = fn(&mut Desk, &[u8]) -> Run;
 
 /// How a column runs journals, if it can.
 pub fn replay_of(column: Column) -> Option<Replay> {
@@ -149,12 +148,9 @@ pub fn replay_of(column: Column) -> Option<Replay> {
     }
 }
 
-fn replay_proved(desk: &mut Desk, release: usize, journal: &[u8]) -> Run {
+fn replay_proved(desk: &mut Desk, journal: &[u8]) -> Run {
     let [store, window, destination, output] = desk.lend();
-    let reply = match release {
-        1 => boundary::journal_replay(journal, store, window, destination, output),
-        _ => boundary::journal_replay_as(release, journal, store, window, destination, output),
-    };
+    let reply = boundary::journal_replay(journal, store, window, destination, output);
     Run {
         written: reply.written,
         carried: reply.carried,
@@ -163,26 +159,21 @@ fn replay_proved(desk: &mut Desk, release: usize, journal: &[u8]) -> Run {
     }
 }
 
-fn replay_plain<const CHECKED: bool>(desk: &mut Desk, release: usize, journal: &[u8]) -> Run {
+fn replay_plain<const CHECKED: bool>(desk: &mut Desk, journal: &[u8]) -> Run {
     let [store, window, destination, output] = desk.lend();
-    match release {
-        1 => replay::<CHECKED>(journal, store, window, destination, output),
-        _ => replay_as::<CHECKED>(release, journal, store, window, destination, output),
-    }
+    replay::<CHECKED>(journal, store, window, destination, output)
 }
 
 /// A journal and its buffers.
 struct Journal {
     desk: Desk,
-    release: usize,
     bytes: Vec<u8>,
     replay: Replay,
 }
 
-fn journals(column: Column, release: usize, journal: &[u8], logged: bool) -> Option<Box<dyn Work>> {
+fn journals(column: Column, journal: &[u8], logged: bool) -> Option<Box<dyn Work>> {
     Some(Box::new(Journal {
         desk: Desk::new(logged),
-        release,
         bytes: journal.to_vec(),
         replay: replay_of(column)?,
     }))
@@ -192,6 +183,6 @@ impl Work for Journal {
     fn prepare(&mut self) {}
 
     fn run(&mut self) {
-        (self.replay)(&mut self.desk, self.release, &self.bytes);
+        (self.replay)(&mut self.desk, &self.bytes);
     }
 }

@@ -162,21 +162,7 @@ extern "C" {
         transfer: usize,
     ) -> Walked;
 
-    pub fn doorclover_frame_read_as(release: usize, frame: *const u8, size: usize) -> Step;
-
     pub fn doorclover_frame_read(frame: *const u8, size: usize) -> Step;
-
-    pub fn doorclover_frame_write_as(
-        release: usize,
-        output: *mut u8,
-        output_size: usize,
-        kind: usize,
-        command: usize,
-        address: usize,
-        length: usize,
-        data: *const u8,
-        data_size: usize,
-    ) -> Framed;
 
     pub fn doorclover_frame_write(
         output: *mut u8,
@@ -188,20 +174,6 @@ extern "C" {
         data: *const u8,
         data_size: usize,
     ) -> Framed;
-
-    pub fn doorclover_journal_replay_as(
-        release: usize,
-        journal: *const u8,
-        journal_size: usize,
-        store: *mut u8,
-        store_size: usize,
-        window: *mut u8,
-        window_size: usize,
-        destination: *mut u8,
-        destination_size: usize,
-        output: *mut u8,
-        output_size: usize,
-    ) -> Replayed;
 
     pub fn doorclover_journal_replay(
         journal: *const u8,

@@ -43,10 +43,6 @@ impl ByteMap {
     };
 }
 
-/// The releases of frames. Each other number is refused with 33.
-pub const FRAMES_1: usize = 1;
-pub const FRAMES_2: usize = 2;
-
 /// A window as a place in memory, for memory that no Rust reference may stand
 /// for.
 #[derive(Clone, Copy)]
@@ -238,45 +234,11 @@ pub unsafe fn walk_in(
     )
 }
 
-/// Reads a frame of a release, [`FRAMES_1`] or [`FRAMES_2`].
-pub fn frame_read_as(release: usize, frame: &[u8]) -> Step {
-    // SAFETY: the frame comes from a reference, and is only read.
-    unsafe { exported::doorclover_frame_read_as(release, frame.as_ptr(), frame.len()) }
-}
-
-/// The same in release 1.
 pub fn frame_read(frame: &[u8]) -> Step {
     // SAFETY: the frame comes from a reference, and is only read.
     unsafe { exported::doorclover_frame_read(frame.as_ptr(), frame.len()) }
 }
 
-/// Writes a frame of a release, [`FRAMES_1`] or [`FRAMES_2`].
-pub fn frame_write_as(
-    release: usize,
-    output: &mut [u8],
-    kind: usize,
-    command: usize,
-    address: usize,
-    length: usize,
-    data: &[u8],
-) -> Framed {
-    // SAFETY: what is lent comes from references that live through the call.
-    unsafe {
-        exported::doorclover_frame_write_as(
-            release,
-            output.as_mut_ptr(),
-            output.len(),
-            kind,
-            command,
-            address,
-            length,
-            data.as_ptr(),
-            data.len(),
-        )
-    }
-}
-
-/// The same in release 1.
 pub fn frame_write(
     output: &mut [u8],
     kind: usize,
@@ -300,35 +262,7 @@ pub fn frame_write(
     }
 }
 
-/// Runs a journal of a release, [`FRAMES_1`] or [`FRAMES_2`], from the fresh state
-/// and writes its log.
-pub fn journal_replay_as(
-    release: usize,
-    journal: &[u8],
-    store: &mut [u8],
-    window: &mut [u8],
-    destination: &mut [u8],
-    output: &mut [u8],
-) -> Replayed {
-    // SAFETY: what is lent comes from references that live through the call.
-    unsafe {
-        exported::doorclover_journal_replay_as(
-            release,
-            journal.as_ptr(),
-            journal.len(),
-            store.as_mut_ptr(),
-            store.len(),
-            window.as_mut_ptr(),
-            window.len(),
-            destination.as_mut_ptr(),
-            destination.len(),
-            output.as_mut_ptr(),
-            output.len(),
-        )
-    }
-}
-
-/// The same in release 1.
+/// Runs a journal from the fresh state and writes its log.
 pub fn journal_replay(
     journal: &[u8],
     store: &mut [u8],

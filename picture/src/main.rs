@@ -50,7 +50,6 @@ is read as explain prints it, from a file, or from standard input if there is
 none or it is `-`:
 
     explain STEPS | picture > run.svg
-    explain --release 2 --frames FRAMES | picture > run.svg
 
 The first 200 frames are drawn; the picture says how many are left out.
 --version prints the version, --help this text.

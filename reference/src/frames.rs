@@ -1,33 +1,15 @@
 //! The reader and the writer of frames ("Step frames" in 01, the agreed scope;
-//! docs/RULES.md has its rules), in both releases (F-7 in 02, the agreed
-//! changes).
+//! docs/RULES.md has its rules).
 
 use crate::limits::{BYTES_PER_CALL, COMMANDS, WINDOW_BYTES};
-use crate::refusal::{refuse_first, refuse_lowest, Refusal};
+use crate::refusal::{refuse_lowest, Refusal};
 
 /// The bytes of a frame that stand before its data.
 const HEAD_BYTES: usize = 5;
 
-/// What one release of frames has of its own.
-struct Release {
-    /// How many bits kind, command, address, length and the spare field have,
-    /// in the order in which they stand.
-    widths: [u32; 5],
-    /// The length of a fetch or a write whose length field is zero.
-    shortest: u64,
-}
-
-/// The releases that there are, the first one first.
-const RELEASES: [Release; 2] = [
-    Release {
-        widths: [3, 3, 16, 13, 5],
-        shortest: 0,
-    },
-    Release {
-        widths: [3, 3, 16, 12, 6],
-        shortest: 1,
-    },
-];
+/// How many bits kind, command, address, length and the spare field have, in
+/// the order in which they stand.
+const WIDTHS: [u32; 5] = [3, 3, 16, 13, 5];
 
 /// One step as a frame says it, with its data still in the frame.
 #[derive(Clone, Copy, Debug, PartialEq, Eq)]
@@ -74,16 +56,13 @@ pub struct Frame<'a> {
     pub consumed: usize,
 }
 
-/// Reads the frame of that release at the front of the input. Bytes behind it do
-/// not matter.
-pub fn read_frame(release: u64, input: &[u8]) -> Result<Frame<'_>, Refusal> {
-    let release = Release::of_number(release)?;
+/// Reads the frame at the front of the input. Bytes behind it do not matter.
+pub fn read_frame(input: &[u8]) -> Result<Frame<'_>, Refusal> {
     let Some((head, rest)) = input.split_first_chunk::<HEAD_BYTES>() else {
         return Err(Refusal::FrameTooShort);
     };
-    let [kind, command, address, field, spare] = release.unpack(head);
+    let [kind, command, address, length, spare] = unpack(head);
     let kind = Kind::of_number(kind)?;
-    let length = field + kind.shortest(release);
     let data_length = kind.data_length(length);
     refuse_lowest([
         (
@@ -115,10 +94,9 @@ pub fn read_frame(release: u64, input: &[u8]) -> Result<Frame<'_>, Refusal> {
     })
 }
 
-/// Makes the frame of a step in that release at the front of the output and
-/// answers its length. The output behind the frame stays as it is.
+/// Makes the frame of a step at the front of the output and answers its
+/// length. The output behind the frame stays as it is.
 pub fn write_frame(
-    release: u64,
     kind: u64,
     command: u64,
     address: u64,
@@ -126,19 +104,16 @@ pub fn write_frame(
     data: &[u8],
     output: &mut [u8],
 ) -> Result<usize, Refusal> {
-    let release = Release::of_number(release)?;
     let known_kind = Kind::of_number(kind)?;
-    let shortest = known_kind.shortest(release);
     let data_length = known_kind.data_length(length);
     let frame_length = HEAD_BYTES as u128 + u128::from(data_length);
-    refuse_first([
+    refuse_lowest([
         (
             known_kind.has_forbidden_field(command, address, length),
             Refusal::MustBeZero,
         ),
         (length > BYTES_PER_CALL as u64, Refusal::LengthTooLong),
         (data.len() as u64 != data_length, Refusal::DataMismatch),
-        (length < shortest, Refusal::LengthZero),
         (command >= COMMANDS as u64, Refusal::NoSuchCommand),
         (
             (output.len() as u128) < frame_length,
@@ -147,7 +122,7 @@ pub fn write_frame(
         (address >= WINDOW_BYTES as u64, Refusal::AddressTooHigh),
     ])?;
     let (head, rest) = output.split_at_mut(HEAD_BYTES);
-    head.copy_from_slice(&release.pack([kind, command, address, length - shortest, 0]));
+    head.copy_from_slice(&pack([kind, command, address, length, 0]));
     rest[..data.len()].copy_from_slice(data);
     Ok(HEAD_BYTES + data.len())
 }
@@ -163,8 +138,8 @@ enum Kind {
 }
 
 impl Kind {
-    /// The kind of that number. A number without a kind is refused (2), before
-    /// all that is judged once the kind is known.
+    /// The kind of that number. A number without a kind is refused (2), which
+    /// is lower than all that is judged after the kind is known.
     fn of_number(number: u64) -> Result<Kind, Refusal> {
         match number {
             0 => Ok(Kind::Begin),
@@ -173,15 +148,6 @@ impl Kind {
             3 => Ok(Kind::HostWrite),
             4 => Ok(Kind::OwnWrite),
             _ => Err(Refusal::KindNotAllowed),
-        }
-    }
-
-    /// The shortest length that a frame of this kind can have. Begin and end have
-    /// no other length than 0.
-    fn shortest(self, release: &Release) -> u64 {
-        match self {
-            Kind::Fetch | Kind::HostWrite | Kind::OwnWrite => release.shortest,
-            Kind::Begin | Kind::End => 0,
         }
     }
 
@@ -203,38 +169,26 @@ impl Kind {
     }
 }
 
-impl Release {
-    /// The release of that number. Another number than 1 and 2 is refused (33),
-    /// before all that is judged of a frame.
-    fn of_number(number: u64) -> Result<&'static Release, Refusal> {
-        match number {
-            1 => Ok(&RELEASES[0]),
-            2 => Ok(&RELEASES[1]),
-            _ => Err(Refusal::UnknownRelease),
-        }
+/// Takes the fields out of the five bytes, the most significant bit first.
+fn unpack(head: &[u8; HEAD_BYTES]) -> [u64; 5] {
+    let mut word = head
+        .iter()
+        .fold(0u64, |word, byte| word << 8 | u64::from(*byte));
+    let mut fields = [0; 5];
+    for (field, width) in fields.iter_mut().zip(WIDTHS).rev() {
+        *field = word & ((1 << width) - 1);
+        word >>= width;
     }
+    fields
+}
 
-    /// Takes the fields out of the five bytes, the most significant bit first.
-    fn unpack(&self, head: &[u8; HEAD_BYTES]) -> [u64; 5] {
-        let mut word = head
-            .iter()
-            .fold(0u64, |word, byte| word << 8 | u64::from(*byte));
-        let mut fields = [0; 5];
-        for (field, width) in fields.iter_mut().zip(self.widths).rev() {
-            *field = word & ((1 << width) - 1);
-            word >>= width;
-        }
-        fields
-    }
-
-    /// Puts fields that fit their widths into five bytes, the most significant
-    /// bit first.
-    fn pack(&self, fields: [u64; 5]) -> [u8; HEAD_BYTES] {
-        let word = fields
-            .iter()
-            .zip(self.widths)
-            .fold(0u64, |word, (field, width)| word << width | field);
-        let [_, _, _, head @ ..] = word.to_be_bytes();
-        head
-    }
+/// Puts fields that fit their widths into five bytes, the most significant
+/// bit first.
+fn pack(fields: [u64; 5]) -> [u8; HEAD_BYTES] {
+    let word = fields
+        .iter()
+        .zip(WIDTHS)
+        .fold(0u64, |word, (field, width)| word << width | field);
+    let [_, _, _, head @ ..] = word.to_be_bytes();
+    head
 }

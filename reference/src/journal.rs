@@ -24,28 +24,22 @@ pub struct Run {
     pub early: bool,
 }
 
-/// Carries out a journal of frames of that release from the fresh book. There is
-/// one line for each frame; the first frame that cannot be read ends the run.
-pub fn replay(release: u64, journal: &[u8], mut lent: Lent) -> Run {
+/// Carries out a journal from the fresh book. There is one line for each
+/// frame; the first frame that cannot be read ends the run.
+pub fn replay(journal: &[u8], mut lent: Lent) -> Run {
     let mut run = Run::default();
     let mut book = Book::fresh();
     let mut rest = journal;
     while !rest.is_empty() && !run.early {
-        rest = run.frame(release, &mut book, &mut lent, rest);
+        rest = run.frame(&mut book, &mut lent, rest);
     }
     run
 }
 
 impl Run {
     /// One frame and its line; the answer is what stands behind the frame.
-    fn frame<'a>(
-        &mut self,
-        release: u64,
-        book: &mut Book,
-        lent: &mut Lent,
-        rest: &'a [u8],
-    ) -> &'a [u8] {
-        match read_frame(release, rest) {
+    fn frame<'a>(&mut self, book: &mut Book, lent: &mut Lent, rest: &'a [u8]) -> &'a [u8] {
+        match read_frame(rest) {
             Ok(frame) => {
                 let answer = call(book, lent, frame.step);
                 self.line(frame.step.letter(), &answer);

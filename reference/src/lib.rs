@@ -1,6 +1,6 @@
 //! A second opinion on the command fetch cache, written from documents 01 (the
-//! agreed scope) and 02 (the agreed changes; of it F-1 to F-3 and F-5 to
-//! F-7) alone. docs/RULES.md has their rules.
+//! agreed scope) and 02 (the agreed changes; of it F-1 to F-3, F-5 and F-6)
+//! alone. docs/RULES.md has their rules.
 //!
 //! A fetch or an own write is worked out here through a map from address to
 //! held byte, whose unbroken runs are the records, and only then packed back

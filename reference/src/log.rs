@@ -10,9 +10,9 @@ pub const INPUT_BYTES: usize = 32_768;
 /// The length of the program's window.
 const LOG_WINDOW_BYTES: usize = 16_384;
 
-/// Carries out the frames of the input, which are of that release, with a store
-/// and a window of zeroes, and gives one line for each.
-pub fn run(release: u64, input: &[u8]) -> String {
+/// Carries out the frames of the input with a store and a window of zeroes,
+/// and gives one line for each.
+pub fn run(input: &[u8]) -> String {
     if input.len() > INPUT_BYTES {
         return "input too long\n".to_string();
     }
@@ -21,5 +21,5 @@ pub fn run(release: u64, input: &[u8]) -> String {
         window: &mut [0; LOG_WINDOW_BYTES],
         destination: &mut [0; BYTES_PER_CALL],
     };
-    journal::replay(release, input, lent).log
+    journal::replay(input, lent).log
 }

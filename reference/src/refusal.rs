@@ -1,7 +1,7 @@
 //! The numbers of the two lists "Turned away because of the input" and
 //! "Turned away because of the state" in 01 (the agreed scope; docs/RULES.md has
-//! its rules), and those of the byte map, of the walk and of the releases of
-//! frames, F-2, F-5 and F-7 in 02 (the agreed changes).
+//! its rules), and those of the byte map and of the walk, F-2 and F-5 in 02 (the
+//! agreed changes).
 
 /// Why a call or a frame is turned away. The order of the cases is the order
 /// of their numbers.
@@ -48,10 +48,6 @@ pub enum Refusal {
     TransferOutOfRange = 31,
     /// PRP1, PRP2 or an entry of a list is no multiple of what it has to be.
     EntryMisaligned = 32,
-    /// There is no release of frames of that number.
-    UnknownRelease = 33,
-    /// A fetch or a write of length 0, which has no frame in release 2.
-    LengthZero = 34,
 }
 
 impl Refusal {
@@ -76,9 +72,8 @@ pub(crate) fn refuse_lowest<const N: usize>(cases: [(bool, Refusal); N]) -> Resu
 }
 
 /// Answers with the first refusal that is marked as applying, and with none if
-/// none applies: for the byte map, whose 30 is judged in the place of 7, for the
-/// walk, whose 31 comes before all others, and for the frame writer, whose 34
-/// comes between 5 and 6 (F-2, F-5 and F-7 in 02).
+/// none applies: for the byte map, whose 30 is judged in the place of 7, and for
+/// the walk, whose 31 comes before all others (F-2 and F-5 in 02).
 pub(crate) fn refuse_first<const N: usize>(cases: [(bool, Refusal); N]) -> Result<(), Refusal> {
     match cases.into_iter().find(|(applies, _)| *applies) {
         Some((_, refusal)) => Err(refusal),

@@ -4,6 +4,9 @@
 
 use std::collections::BTreeSet;
 
+use reference::frames::{read_frame, write_frame};
+use sampling::layout::{frame, head};
+
 use crate::scene::{evenly, open_with, Scene};
 
 /// All choices from the given numbers, the empty one included.
@@ -252,4 +255,187 @@ fn show_gives_the_lowest() {
         }
     }
     seen.all_of(&numbers);
+}
+
+#[test]
+fn reader_gives_the_lowest() {
+    let numbers = [1, 2, 3, 4, 5];
+    let mut seen = Seen::new();
+    for flaws in choices(&numbers) {
+        let has = |number| flaws.contains(&number);
+        if has(1) && flaws.len() > 1 || has(2) && has(5) {
+            continue;
+        }
+        let kinds = match (has(2), has(5)) {
+            (true, _) => vec![5, 6, 7],
+            (false, true) => vec![3, 4],
+            (false, false) => vec![1, 3, 4],
+        };
+        for kind in kinds {
+            for spare in [1, 16, 31] {
+                let spare = if has(3) { spare } else { 0 };
+                let length = if has(4) { 4_097 } else { 10 };
+                let mut bytes = head(kind, 0, 40, length, spare);
+                if kind != 1 {
+                    let missing = u64::from(has(5));
+                    bytes.resize(5 + (length - missing) as usize, 0x77);
+                }
+                if has(1) {
+                    bytes.truncate(4);
+                }
+                let answer = read_frame(&bytes).map_err(|refusal| refusal.number());
+                seen.check(answer, &flaws);
+            }
+        }
+    }
+    seen.all_of(&numbers);
+}
+
+#[test]
+fn reader_puts_a_forbidden_field_before_a_length_and_missing_data() {
+    let number_of = |bytes: &[u8]| read_frame(bytes).unwrap_err().number();
+    for length in [1, 4_096, 4_097, 8_191] {
+        assert_eq!(number_of(&head(0, 0, 0, length, 0)), 3);
+        assert_eq!(number_of(&head(2, 0, 0, length, 0)), 3);
+        assert_eq!(number_of(&head(3, 1, 0, length, 0)), 3);
+    }
+}
+
+#[test]
+fn reader_says_only_1_of_a_short_frame() {
+    for kind in 0..8 {
+        let bytes = head(kind, 7, 65_535, 8_191, 31);
+        for length in 0..5 {
+            let refusal = read_frame(&bytes[..length]).unwrap_err();
+            assert_eq!(refusal.number(), 1);
+        }
+    }
+}
+
+/// What is handed to the writer. How many data and how much output there are
+/// is said as a difference from what the kind and the length ask for.
+struct WriterInput {
+    kind: u64,
+    command: u64,
+    address: u64,
+    length: u64,
+    extra_data: usize,
+    missing_output: usize,
+}
+
+/// A flaw of the writer's input: what it sets, and the number it brings.
+type WriterFlaw<'a> = (&'a dyn Fn(&mut WriterInput), u8);
+
+/// Whether the kind has data, as the table of kinds says.
+fn has_data(kind: u64) -> bool {
+    kind == 3 || kind == 4
+}
+
+/// Holds the writer's answer against the lowest number of all choices from
+/// the flaws; each flaw sets a field of its own.
+fn check_writer(kind: u64, always: &[u8], possible: &[WriterFlaw], seen: &mut Seen) {
+    let places: Vec<u8> = (0..possible.len() as u8).collect();
+    for chosen in choices(&places) {
+        let mut input = WriterInput {
+            kind,
+            command: 0,
+            address: 0,
+            length: 0,
+            extra_data: 0,
+            missing_output: 0,
+        };
+        let mut flaws = always.to_vec();
+        for place in chosen {
+            let (set, number) = possible[place as usize];
+            set(&mut input);
+            flaws.push(number);
+        }
+        let of_length = if has_data(kind) {
+            input.length as usize
+        } else {
+            0
+        };
+        let data = vec![0x77; of_length + input.extra_data];
+        let before = vec![0xa5; 5 + of_length - input.missing_output];
+        let mut output = before.clone();
+        let answer = write_frame(
+            input.kind,
+            input.command,
+            input.address,
+            input.length,
+            &data,
+            &mut output,
+        );
+        match answer {
+            Ok(_) => assert_eq!(
+                output,
+                frame(kind, input.command, input.address, input.length, &data)
+            ),
+            Err(_) => assert_eq!(output, before),
+        }
+        seen.check(answer.map_err(|refusal| refusal.number()), &flaws);
+    }
+}
+
+#[test]
+fn writer_gives_the_lowest() {
+    let mut seen = Seen::new();
+    let extra_data: WriterFlaw = (&|input| input.extra_data = 1, 5);
+    let missing_output: WriterFlaw = (&|input| input.missing_output = 1, 10);
+    for (command, address, length) in [(8, 65_536, 4_097), (u64::MAX, u64::MAX, 8_192)] {
+        let set_command = |input: &mut WriterInput| input.command = command;
+        let set_address = |input: &mut WriterInput| input.address = address;
+        let set_length = |input: &mut WriterInput| input.length = length;
+        for kind in [0, 2] {
+            let possible: [WriterFlaw; 5] = [
+                (&set_address, 3),
+                (&set_length, 3),
+                extra_data,
+                (&set_command, 6),
+                missing_output,
+            ];
+            check_writer(kind, &[], &possible, &mut seen);
+        }
+        for kind in [1, 4] {
+            let possible: [WriterFlaw; 5] = [
+                (&set_length, 4),
+                extra_data,
+                (&set_command, 6),
+                missing_output,
+                (&set_address, 11),
+            ];
+            check_writer(kind, &[], &possible, &mut seen);
+        }
+        let possible: [WriterFlaw; 5] = [
+            (&set_command, 3),
+            (&set_length, 4),
+            extra_data,
+            missing_output,
+            (&set_address, 11),
+        ];
+        check_writer(3, &[], &possible, &mut seen);
+        for kind in [5, 6, 7, 8, 1 << 32, u64::MAX] {
+            let possible: [WriterFlaw; 5] = [
+                (&set_length, 4),
+                extra_data,
+                (&set_command, 6),
+                missing_output,
+                (&set_address, 11),
+            ];
+            check_writer(kind, &[2], &possible, &mut seen);
+        }
+    }
+    seen.all_of(&[2, 3, 4, 5, 6, 10, 11]);
+}
+
+#[test]
+fn writer_judges_a_length_that_cannot_be_summed() {
+    for kind in [1, 3, 4] {
+        for length in [u64::MAX - 5, u64::MAX - 4, u64::MAX] {
+            let mut output = [0xa5; 4];
+            let answer = write_frame(kind, 0, u64::MAX, length, &[1], &mut output);
+            assert_eq!(answer.unwrap_err().number(), 4);
+            assert_eq!(output, [0xa5; 4]);
+        }
+    }
 }

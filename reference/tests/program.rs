@@ -1,11 +1,10 @@
-//! The program itself: standard input to standard output, the release that it is
-//! given, and its answer to any other command line argument.
+//! The program itself: standard input to standard output, and its answer to
+//! a command line argument.
 
 use std::io::Write;
 use std::process::{Command, Output, Stdio};
 
 use crate::log_program::{longest_input, longest_log};
-use crate::worked_log;
 
 /// Runs the program with these arguments and this standard input.
 fn run_program(arguments: &[&str], input: &[u8]) -> Output {
@@ -24,67 +23,38 @@ fn run_program(arguments: &[&str], input: &[u8]) -> Output {
     output
 }
 
-/// Runs the program with these arguments, which must be good, and gives its
-/// standard output.
-fn printed(arguments: &[&str], input: &[u8]) -> String {
-    let output = run_program(arguments, input);
+/// Runs the program without arguments and gives its standard output.
+fn printed(input: &[u8]) -> String {
+    let output = run_program(&[], input);
     assert!(output.status.success());
     assert_eq!(output.stderr, b"");
     String::from_utf8(output.stdout).unwrap()
 }
 
-/// No release, which is release 1, and both of them.
-const RELEASES: [(u64, &[&str]); 3] =
-    [(1, &[]), (1, &["--release", "1"]), (2, &["--release", "2"])];
-
 #[test]
 fn the_program_prints_the_worked_log() {
+    let frames = include_bytes!("../../examples/worked.frames");
     let log = include_str!("../../examples/worked.log");
-    assert_eq!(printed(&[], &worked_log::FRAMES), log);
-    assert_eq!(printed(&["--release", "2"], &worked_log::FRAMES_2), log);
+    assert_eq!(printed(frames), log);
 }
 
 #[test]
 fn the_program_prints_nothing_for_empty_input() {
-    for (_, arguments) in RELEASES {
-        assert_eq!(printed(arguments, &[]), "");
-    }
-    assert_eq!(printed(&["--release", "3"], &[]), "");
+    assert_eq!(printed(&[]), "");
 }
 
 #[test]
 fn the_program_takes_32768_bytes_and_no_more() {
-    for (release, arguments) in RELEASES {
-        let mut input = longest_input(release);
-        assert_eq!(printed(arguments, &input), longest_log());
-        input.push(0);
-        assert_eq!(printed(arguments, &input), "input too long\n");
-        assert_eq!(printed(arguments, &[0; 1_000_000]), "input too long\n");
-    }
+    let mut input = longest_input();
+    assert_eq!(printed(&input), longest_log());
+    input.push(0);
+    assert_eq!(printed(&input), "input too long\n");
+    assert_eq!(printed(&[0; 1_000_000]), "input too long\n");
 }
 
 #[test]
-fn a_number_that_is_no_release_is_refused_with_33() {
-    for number in ["0", "3", "18446744073709551615"] {
-        assert_eq!(printed(&["--release", number], &[0]), "1 ? no 33\n");
-    }
-}
-
-#[test]
-fn any_other_argument_brings_the_usage_and_status_2() {
-    for arguments in [
-        &["--help"][..],
-        &[""],
-        &["-"],
-        &["a", "b"],
-        &["--release"],
-        &["--release", ""],
-        &["--release", "-1"],
-        &["--release", "18446744073709551616"],
-        &["--release", "2", "--release"],
-        &["--release", "2", "-"],
-        &["2", "--release"],
-    ] {
+fn any_argument_brings_the_usage_and_status_2() {
+    for arguments in [&["--help"][..], &[""], &["-"], &["a", "b"]] {
         let output = run_program(arguments, &[]);
         assert_eq!(output.status.code(), Some(2));
         assert_eq!(output.stdout, b"");

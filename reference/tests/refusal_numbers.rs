@@ -26,8 +26,6 @@ fn every_case_has_its_number() {
         (Refusal::WindowBeyondMap, 30),
         (Refusal::TransferOutOfRange, 31),
         (Refusal::EntryMisaligned, 32),
-        (Refusal::UnknownRelease, 33),
-        (Refusal::LengthZero, 34),
     ];
     for (refusal, number) in numbers {
         assert_eq!(refusal.number(), number);

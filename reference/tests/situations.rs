@@ -136,12 +136,10 @@ fn situation_h_a_fetch_of_4097_bytes_is_too_long() {
 
 #[test]
 fn situation_i_three_frames_that_cannot_be_read() {
-    for release in [1, 2] {
-        let number_of = |bytes: &[u8]| read_frame(release, bytes).unwrap_err().number();
-        assert_eq!(number_of(&[0x28, 0x00, 0x40, 0x00, 0x81]), 3);
-        assert_eq!(number_of(&[0x28, 0x00, 0x40, 0x00]), 1);
-        assert_eq!(number_of(&[0xa0, 0x00, 0x00, 0x00, 0x00]), 2);
-    }
+    let number_of = |bytes: &[u8]| read_frame(bytes).unwrap_err().number();
+    assert_eq!(number_of(&[0x28, 0x00, 0x40, 0x00, 0x81]), 3);
+    assert_eq!(number_of(&[0x28, 0x00, 0x40, 0x00]), 1);
+    assert_eq!(number_of(&[0xa0, 0x00, 0x00, 0x00, 0x00]), 2);
 }
 
 #[test]

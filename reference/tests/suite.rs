@@ -17,7 +17,6 @@ mod limits_of_maps;
 mod limits_of_walks;
 mod log_program;
 mod map_beside_records;
-mod order_of_frame_refusals;
 mod order_of_map_refusals;
 mod order_of_refusals;
 mod order_of_walk_refusals;

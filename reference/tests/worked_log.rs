@@ -1,6 +1,5 @@
 //! The worked log of 01 (the agreed scope; docs/RULES.md has its rules), byte
-//! for byte, and the example files that hold it; and the same steps as frames of
-//! release 2 (F-7 of 02, the agreed changes).
+//! for byte, and the example files that hold it.
 
 use reference::log;
 
@@ -8,7 +7,7 @@ const FRAMES_FILE: &[u8] = include_bytes!("../../examples/worked.frames");
 const LOG_FILE: &[u8] = include_bytes!("../../examples/worked.log");
 
 #[rustfmt::skip]
-pub const FRAMES: [u8; 41] = [
+const FRAMES: [u8; 41] = [
     0x08, 0x00, 0x00, 0x00, 0x00,
     0x60, 0x00, 0x40, 0x00, 0x80, 0x61, 0x62, 0x63, 0x64,
     0x28, 0x00, 0x40, 0x00, 0x80,
@@ -16,17 +15,6 @@ pub const FRAMES: [u8; 41] = [
     0x28, 0x00, 0x38, 0x01, 0x00,
     0x48, 0x00, 0x00, 0x00, 0x00,
     0x28, 0x00, 0x40, 0x00, 0x80,
-];
-
-#[rustfmt::skip]
-pub const FRAMES_2: [u8; 41] = [
-    0x08, 0x00, 0x00, 0x00, 0x00,
-    0x60, 0x00, 0x40, 0x00, 0xc0, 0x61, 0x62, 0x63, 0x64,
-    0x28, 0x00, 0x40, 0x00, 0xc0,
-    0x60, 0x00, 0x48, 0x00, 0x40, 0x7a, 0x7a,
-    0x28, 0x00, 0x38, 0x01, 0xc0,
-    0x48, 0x00, 0x00, 0x00, 0x00,
-    0x28, 0x00, 0x40, 0x00, 0xc0,
 ];
 
 const LOG: &str = "1 B ok\n\
@@ -39,16 +27,7 @@ const LOG: &str = "1 B ok\n\
 
 #[test]
 fn the_worked_log_comes_out() {
-    assert_eq!(log::run(1, &FRAMES), LOG);
-    assert_eq!(log::run(2, &FRAMES_2), LOG);
-}
-
-/// The length field of the first write says 3 or 6 bytes in the other release, and
-/// what stands behind so many is no frame.
-#[test]
-fn frames_of_the_other_release_are_read_by_its_layout() {
-    assert_eq!(log::run(2, &FRAMES), "1 B ok\n2 H ok 3\n3 ? no 3\n");
-    assert_eq!(log::run(1, &FRAMES_2), "1 B ok\n2 H ok 6\n3 ? no 3\n");
+    assert_eq!(log::run(&FRAMES), LOG);
 }
 
 #[test]

@@ -14,13 +14,12 @@ void check(int good, const char *what, const char *file, int line)
     printf("  %s:%d: not so: %s\n", file, line, what);
 }
 
-/* The refusals that were seen, of each call; of those that take a release, by what it was. */
-enum { CALLS = 19, NUMBERS = 35 };
-static const char *const names[CALLS] = {"begin",      "fetch",      "end",        "host write",
-                                         "own write",  "show",       "walk",       "read",
-                                         "read as 1",  "read as 2",  "read as ?",  "write",
-                                         "write as 1", "write as 2", "write as ?", "map begin",
-                                         "map fetch",  "map end",    "map own write"};
+/* The refusals that were seen, of each call. */
+enum { CALLS = 13, NUMBERS = 33 };
+static const char *const names[CALLS] = {"begin",     "fetch",     "end",     "host write",
+                                         "own write", "show",      "read",    "write",
+                                         "map begin", "map fetch", "map end", "map own write",
+                                         "walk"};
 static int seen[CALLS][NUMBERS];
 
 static int *seen_of(const char *call)
@@ -102,15 +101,6 @@ void mend_words(const desk *d)
 }
 
 const size_t too_high[TOO_HIGH] = {8, 9, 129, 65536, (size_t)1 << 32, SIZE_MAX};
-
-const naming namings[NAMINGS] = {{0, DOORCLOVER_FRAMES_1}, {1, DOORCLOVER_FRAMES_1}, {1, DOORCLOVER_FRAMES_2}};
-const size_t unknown[UNKNOWN] = {0, 3, 258, 65537, ((size_t)1 << 32) + 1, ((size_t)1 << 63) + 2, SIZE_MAX};
-
-naming as(size_t release)
-{
-    naming n = {1, release};
-    return n;
-}
 
 /* The words and the part of the store of a command may change. */
 static void allow_command(const desk *d, size_t command)
@@ -397,58 +387,19 @@ void show(const desk *d, size_t command, size_t index, size_t start, size_t leng
     CHECK(all_kept());
 }
 
-doorclover_step frame_read(naming n, const lent *frame)
+void read_refused(const desk *d, doorclover_status want)
 {
     keep_all();
-    return n.named ? doorclover_frame_read_as(n.release, frame->bytes, frame->size)
-                   : doorclover_frame_read(frame->bytes, frame->size);
+    doorclover_step r = doorclover_frame_read(d->bytes->bytes, d->bytes->size);
+    turned_away("read", want, r.status, r.kind | r.command | r.address | r.length | r.taken);
 }
 
-/* The row of a naming among the names of a call: without a release, as 1, as 2, and as any other. */
-static size_t row(naming n)
-{
-    if (!n.named)
-        return 0;
-    return n.release == DOORCLOVER_FRAMES_1 || n.release == DOORCLOVER_FRAMES_2 ? n.release : 3;
-}
-
-void read_refused(const desk *d, naming n, doorclover_status want)
-{
-    static const char *const calls[] = {"read", "read as 1", "read as 2", "read as ?"};
-    doorclover_step r = frame_read(n, d->bytes);
-    turned_away(calls[row(n)], want, r.status,
-                r.kind | r.command | r.address | r.length | r.taken);
-}
-
-doorclover_framed frame_write(const desk *d, naming n, size_t kind, size_t command, size_t address,
-                              size_t length)
-{
-    keep_all();
-    return n.named ? doorclover_frame_write_as(n.release, d->output->bytes, d->output->size, kind,
-                                               command, address, length, d->bytes->bytes,
-                                               d->bytes->size)
-                   : doorclover_frame_write(d->output->bytes, d->output->size, kind, command,
-                                            address, length, d->bytes->bytes, d->bytes->size);
-}
-
-void write_refused(const desk *d, naming n, doorclover_status want, size_t kind, size_t command,
+void write_refused(const desk *d, doorclover_status want, size_t kind, size_t command,
                    size_t address, size_t length)
 {
-    static const char *const calls[] = {"write", "write as 1", "write as 2", "write as ?"};
-    doorclover_framed r = frame_write(d, n, kind, command, address, length);
-    turned_away(calls[row(n)], want, r.status, r.length);
-}
-
-doorclover_replayed journal_replay(const desk *d, naming n)
-{
     keep_all();
-    return n.named ? doorclover_journal_replay_as(n.release, d->bytes->bytes, d->bytes->size,
-                                                  d->store->bytes, d->store->size,
-                                                  d->window->bytes, d->window->size,
-                                                  d->destination->bytes, d->destination->size,
-                                                  d->output->bytes, d->output->size)
-                   : doorclover_journal_replay(d->bytes->bytes, d->bytes->size, d->store->bytes,
-                                               d->store->size, d->window->bytes, d->window->size,
-                                               d->destination->bytes, d->destination->size,
-                                               d->output->bytes, d->output->size);
+    doorclover_framed r =
+        doorclover_frame_write(d->output->bytes, d->output->size, kind, command, address, length,
+                               d->bytes->bytes, d->bytes->size);
+    turned_away("write", want, r.status, r.length);
 }

@@ -44,21 +44,6 @@ void mend_words(const desk *d);
 enum { TOO_HIGH = 6 };
 extern const size_t too_high[TOO_HIGH];
 
-/* Which functions of frames are called: those that take a release, with this one, or those of release 1. */
-typedef struct {
-    int named;
-    size_t release;
-} naming;
-naming as(size_t release);
-
-/* Every way to name a release that there is: the first two are release 1. */
-enum { NAMINGS_OF_1 = 2, NAMINGS = 3 };
-extern const naming namings[NAMINGS];
-
-/* Releases that there are none of. */
-enum { UNKNOWN = 7 };
-extern const size_t unknown[UNKNOWN];
-
 /*
  * A walk: what it is given, and what is wanted of it. It makes at most two fetches, each of the entries of
  * a list; one of length 0 is none.
@@ -89,8 +74,8 @@ void host_refused(const desk *d, doorclover_status want, size_t address);
 void own_refused(const desk *d, doorclover_status want, size_t command, size_t address);
 void walk_refused(const desk *d, doorclover_status want, const walking *w);
 void show_refused(const desk *d, doorclover_status want, size_t command, size_t index);
-void read_refused(const desk *d, naming n, doorclover_status want);
-void write_refused(const desk *d, naming n, doorclover_status want, size_t kind, size_t command,
+void read_refused(const desk *d, doorclover_status want);
+void write_refused(const desk *d, doorclover_status want, size_t kind, size_t command,
                    size_t address, size_t length);
 
 /*
@@ -112,12 +97,6 @@ void host_write(const desk *d, size_t address);
 void own_write(const desk *d, size_t command, size_t address, size_t fresh);
 size_t walk(const desk *d, const walking *w);
 void show(const desk *d, size_t command, size_t index, size_t start, size_t length);
-
-/* The calls of frames, with no check of their own. */
-doorclover_step frame_read(naming n, const lent *frame);
-doorclover_framed frame_write(const desk *d, naming n, size_t kind, size_t command, size_t address,
-                              size_t length);
-doorclover_replayed journal_replay(const desk *d, naming n);
 
 /* Were just these refusals seen, of a call by its name? The numbers end with 0. */
 int seen_just(const char *call, const doorclover_status *numbers);

@@ -135,20 +135,9 @@ static void frame_write(void)
                                   sizeof list).status;
 }
 
-static void frame_write_as(void)
-{
-    told = doorclover_frame_write_as(DOORCLOVER_FRAMES_2, output, sizeof output,
-                                     DOORCLOVER_KIND_OWN_WRITE, 3, 0, 4096, list, sizeof list).status;
-}
-
 static void frame_read(void)
 {
     told = doorclover_frame_read(output, sizeof output).status;
-}
-
-static void frame_read_as(void)
-{
-    told = doorclover_frame_read_as(DOORCLOVER_FRAMES_2, output, sizeof output).status;
 }
 
 static void journal(void)
@@ -165,24 +154,6 @@ static void journal(void)
     doorclover_replayed r = doorclover_journal_replay(frames, sizeof frames, store, sizeof store,
                                                       window, sizeof window, list, sizeof list,
                                                       output, sizeof output);
-    told = r.carried == 7 && r.early == 0 ? 0 : 1;
-}
-
-/* The same in release 2. */
-static void journal_as(void)
-{
-    static const uint8_t frames[] = {
-        0x0c, 0, 0,    0,    0,       /* begin 3 */
-        0x2c, 0, 0x04, 0,    0,       /* fetch 1+1 */
-        0x2c, 0, 0x0c, 0,    0,       /* fetch 3+1 */
-        0x8c, 0, 0x08, 0,    0,    1, /* own write 2+1, which joins them */
-        0x2c, 0, 0x03, 0xff, 0xc0,    /* fetch 0+4096 */
-        0x60, 0, 0,    0,    0,    1, /* host write 0+1 */
-        0x4c, 0, 0,    0,    0        /* end 3 */
-    };
-    doorclover_replayed r = doorclover_journal_replay_as(DOORCLOVER_FRAMES_2, frames, sizeof frames,
-                                                         store, sizeof store, window, sizeof window,
-                                                         list, sizeof list, output, sizeof output);
     told = r.carried == 7 && r.early == 0 ? 0 : 1;
 }
 
@@ -287,10 +258,7 @@ static int stacks(void)
     good &= within("walk", walk, DOORCLOVER_STACK);
     good &= within("frame write", frame_write, DOORCLOVER_STACK);
     good &= within("frame read", frame_read, DOORCLOVER_STACK);
-    good &= within("frame write, release 2", frame_write_as, DOORCLOVER_STACK);
-    good &= within("frame read, release 2", frame_read_as, DOORCLOVER_STACK);
     good &= within("journal replay", journal, DOORCLOVER_JOURNAL_STACK);
-    good &= within("journal replay, release 2", journal_as, DOORCLOVER_JOURNAL_STACK);
     good &= within("map fresh", map_fresh, DOORCLOVER_STACK);
     good &= within("map begin", map_begin, DOORCLOVER_STACK);
     good &= map_some();

@@ -22,14 +22,9 @@ extern doorclover_walked (*const walk_is)(state *, writes, size_t, reads, size_t
                                           uint64_t *, size_t, uint32_t *, size_t, size_t, uint64_t,
                                           uint64_t, size_t);
 extern doorclover_shown (*const show_is)(const state *, size_t, size_t);
-extern doorclover_step (*const frame_read_as_is)(size_t, reads, size_t);
 extern doorclover_step (*const frame_read_is)(reads, size_t);
-extern doorclover_framed (*const frame_write_as_is)(size_t, writes, size_t, size_t, size_t, size_t,
-                                                    size_t, reads, size_t);
 extern doorclover_framed (*const frame_write_is)(writes, size_t, size_t, size_t, size_t, size_t,
                                                  reads, size_t);
-extern doorclover_replayed (*const journal_replay_as_is)(size_t, reads, size_t, writes, size_t, writes,
-                                                         size_t, writes, size_t, writes, size_t);
 extern doorclover_replayed (*const journal_replay_is)(reads, size_t, writes, size_t, writes, size_t,
                                                       writes, size_t, writes, size_t);
 extern void (*const map_fresh_is)(uint64_t *, uint64_t *, writes);
@@ -54,15 +49,9 @@ doorclover_walked (*const walk_is)(state *, writes, size_t, reads, size_t, write
                                    size_t, uint32_t *, size_t, size_t, uint64_t, uint64_t,
                                    size_t) = doorclover_walk;
 doorclover_shown (*const show_is)(const state *, size_t, size_t) = doorclover_show;
-doorclover_step (*const frame_read_as_is)(size_t, reads, size_t) = doorclover_frame_read_as;
 doorclover_step (*const frame_read_is)(reads, size_t) = doorclover_frame_read;
-doorclover_framed (*const frame_write_as_is)(size_t, writes, size_t, size_t, size_t, size_t, size_t,
-                                             reads, size_t) = doorclover_frame_write_as;
 doorclover_framed (*const frame_write_is)(writes, size_t, size_t, size_t, size_t, size_t, reads,
                                           size_t) = doorclover_frame_write;
-doorclover_replayed (*const journal_replay_as_is)(size_t, reads, size_t, writes, size_t, writes, size_t,
-                                                  writes, size_t, writes,
-                                                  size_t) = doorclover_journal_replay_as;
 doorclover_replayed (*const journal_replay_is)(reads, size_t, writes, size_t, writes, size_t, writes,
                                                size_t, writes, size_t) = doorclover_journal_replay;
 void (*const map_fresh_is)(uint64_t *, uint64_t *, writes) = doorclover_map_fresh;
@@ -138,6 +127,6 @@ int is_full(doorclover_status status)
     case DOORCLOVER_TOO_MANY_RECORDS:
         return 1;
     default:
-        return status != DOORCLOVER_OK && status > DOORCLOVER_LENGTH_ZERO;
+        return status != DOORCLOVER_OK && status > DOORCLOVER_ENTRY_MISALIGNED;
     }
 }

@@ -14,10 +14,7 @@ static void test_every_refusal_seen(void)
     static const doorclover_status walks[] = {6, 7, 8, 9, 10, 20, 21, 23, 24, 31, 32, 0};
     static const doorclover_status shows[] = {6, 20, 21, 25, 0};
     static const doorclover_status reads[] = {1, 2, 3, 4, 5, 0};
-    static const doorclover_status reads_2[] = {1, 2, 3, 5, 0};
     static const doorclover_status writes[] = {2, 3, 4, 5, 6, 10, 11, 0};
-    static const doorclover_status writes_2[] = {2, 3, 4, 5, 6, 10, 11, 34, 0};
-    static const doorclover_status of_no_release[] = {33, 0};
     static const doorclover_status map_begins[] = {20, 22, 0};
     static const doorclover_status map_fetches[] = {4, 9, 10, 20, 21, 24, 30, 0};
     static const doorclover_status map_ends[] = {20, 21, 0};
@@ -30,13 +27,7 @@ static void test_every_refusal_seen(void)
     CHECK(seen_just("walk", walks));
     CHECK(seen_just("show", shows));
     CHECK(seen_just("read", reads));
-    CHECK(seen_just("read as 1", reads));
-    CHECK(seen_just("read as 2", reads_2));
-    CHECK(seen_just("read as ?", of_no_release));
     CHECK(seen_just("write", writes));
-    CHECK(seen_just("write as 1", writes));
-    CHECK(seen_just("write as 2", writes_2));
-    CHECK(seen_just("write as ?", of_no_release));
     CHECK(seen_just("map begin", map_begins));
     CHECK(seen_just("map fetch", map_fetches));
     CHECK(seen_just("map end", map_ends));
@@ -96,18 +87,12 @@ static const test tests[] = {
     {"two states side by side", test_states_side_by_side},
     {"frame read", test_frame_read},
     {"frame read refused", test_frame_read_refused},
-    {"frame read of lengths at their limits", test_frame_read_lengths},
-    {"frame read of single bits", test_frame_read_bits},
     {"frame write", test_frame_write},
-    {"frame write of lengths at their limits", test_frame_write_lengths},
     {"frame write refused", test_frame_write_refused},
-    {"frames of a release that there is not", test_frame_release},
     {"journal", test_journal},
     {"journal with own writes", test_journal_own_write},
     {"journal with a log that is cut", test_journal_cut},
     {"journal with refused and unreadable frames", test_journal_refused},
-    {"journal of the other release", test_journal_other_release},
-    {"journal of a release that there is not", test_journal_release},
     {"journal with null pointers", test_journal_nulls},
     {"map: fresh", test_map_fresh},
     {"map: what is open", test_map_open},

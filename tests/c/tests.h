@@ -56,18 +56,12 @@ void test_states_side_by_side(void);
 /* frames.c */
 void test_frame_read(void);
 void test_frame_read_refused(void);
-void test_frame_read_lengths(void);
-void test_frame_read_bits(void);
 void test_frame_write(void);
-void test_frame_write_lengths(void);
 void test_frame_write_refused(void);
-void test_frame_release(void);
 void test_journal(void);
 void test_journal_own_write(void);
 void test_journal_cut(void);
 void test_journal_refused(void);
-void test_journal_other_release(void);
-void test_journal_release(void);
 void test_journal_nulls(void);
 
 /* map.c */

@@ -163,25 +163,6 @@ static void journal(void) {
     put((const char *)output);
 }
 
-/* The same in frames of release 2, run by a release. */
-static doorclover_replayed replay_as(size_t release) {
-    static const uint8_t frames[] = {0x08, 0, 0, 0, 0, 0x60, 0, 0x40, 0, 0xc0, 0x61, 0x62, 0x63, 0x64, 0x28, 0, 0x40, 0, 0xc0,
-                                     0x60, 0, 0x48, 0, 0x40, 0x7a, 0x7a, 0x28, 0, 0x38, 1, 0xc0, 0x48, 0, 0, 0, 0, 0x28, 0, 0x40, 0, 0xc0};
-    memset(window, 0, sizeof window);
-    doorclover_replayed r = doorclover_journal_replay_as(release, frames, sizeof frames, store, sizeof store, window, sizeof window,
-                                                         destination, sizeof destination, output, sizeof output - 1);
-    output[r.written] = 0;
-    put((const char *)output);
-    return r;
-}
-
-static void journal_as(void) {
-    doorclover_replayed r = replay_as(DOORCLOVER_FRAMES_2);
-    check(r.carried == 6 && r.refused == 1 && r.early == 0, "journal of release 2");
-    r = replay_as(DOORCLOVER_FRAMES_2 + 1);
-    check(r.written == 10 && r.carried == 0 && r.refused == 0 && r.early == 1, "journal of a release that there is not");
-}
-
 static uint64_t sum = 14695981039346656037u;
 
 static void add(const void *from, size_t size) {
@@ -240,24 +221,13 @@ static void write(size_t command, size_t address, size_t length) {
     else add_written(doorclover_own_write(&state, store, sizeof store, window, sizeof window, command, address, bytes, size));
 }
 
-/* Most releases of frames are ones that there are; some calls take none. */
-static size_t made_release(void) {
-    return made(20) == 0 ? SIZE_MAX - made(2) : made(20) == 0 ? 3 * made(2) : 1 + made(2);
-}
-
 static void frame(size_t command, size_t address, size_t length) {
-    int named = made(3) != 0;
-    size_t release = made_release(), kind = made(6), data = made(3) == 0 ? length % sizeof bytes : 0;
-    if (made(2) == 0) address = 0;
-    if (made(2) == 0) length = 0;
-    doorclover_framed r =
-        named ? doorclover_frame_write_as(release, output, sizeof output, kind, command, address, length, bytes, data)
-              : doorclover_frame_write(output, sizeof output, kind, command, address, length, bytes, data);
+    doorclover_framed r = doorclover_frame_write(output, sizeof output, made(6), command, made(2) * address, made(2) * length, bytes,
+                                                 made(3) == 0 ? length % sizeof bytes : 0);
     add_number(r.status);
     add_number(r.length);
     output[made(5)] ^= (uint8_t)(1u << made(8));
-    size_t size = made(20) == 0 ? made(6) : made(5000);
-    doorclover_step s = named ? doorclover_frame_read_as(release, output, size) : doorclover_frame_read(output, size);
+    doorclover_step s = doorclover_frame_read(output, made(20) == 0 ? made(6) : made(5000));
     add_number(s.status);
     add_number(s.kind);
     add_number(s.command);
@@ -416,7 +386,6 @@ int run(void) {
     map_own_write();
     page_list();
     journal();
-    journal_as();
     made_calls();
     put(wrong == 0 ? "right\n" : "WRONG\n");
     return wrong != 0;

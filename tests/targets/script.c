@@ -233,39 +233,6 @@ static int map_call(uint64_t *answer, uint64_t seed) {
     return -1;
 }
 
-/* Is the call of the line the one of this name, or its like that takes a release? */
-static bool is_of_frames(const char *name) {
-    size_t size = strlen(name);
-    return strncmp(words[0], name, size) == 0 && (words[0][size] == 0 || strcmp(words[0] + size, "-as") == 0);
-}
-
-/* Makes the call of the line if it is one of frames, and returns how many numbers its answer has; else -1. */
-static int frame_call(uint64_t *answer, uint64_t seed) {
-    bool read = is_of_frames("read"), replay = is_of_frames("replay");
-    if (!read && !replay && !is_of_frames("write")) return -1;
-    bool as = strstr(words[0], "-as") != NULL;
-    uint64_t release = as ? number() : 0;
-    if (read) {
-        size_t size = given_bytes(seed);
-        doorclover_step r = as ? doorclover_frame_read_as(release, data, size) : doorclover_frame_read(data, size);
-        ANSWER(r.status, r.kind, r.command, r.address, r.length, r.taken);
-    }
-    if (replay) {
-        size_t size = given_bytes(seed);
-        doorclover_replayed r =
-            as ? doorclover_journal_replay_as(release, data, size, LENT(STORE), LENT(WINDOW), LENT(DESTINATION), LENT(OUTPUT))
-               : doorclover_journal_replay(data, size, LENT(STORE), LENT(WINDOW), LENT(DESTINATION), LENT(OUTPUT));
-        ANSWER(r.written, r.carried, r.refused, r.early);
-    }
-    uint64_t kind = number(), c = number(), a, n;
-    span(&a, &n);
-    uint64_t size = number();
-    make_bytes(data, size, seed);
-    doorclover_framed r = as ? doorclover_frame_write_as(release, LENT(OUTPUT), kind, c, a, n, data, size)
-                             : doorclover_frame_write(LENT(OUTPUT), kind, c, a, n, data, size);
-    ANSWER(r.status, r.length);
-}
-
 /* Makes the walk of the line. */
 static int walk_call(uint64_t *answer) {
     uint64_t c = number(), prp1 = number(), prp2 = number(), transfer = number();
@@ -285,14 +252,30 @@ static int call(uint64_t *answer, uint64_t seed) {
         doorclover_fresh(state);
         return 0;
     }
+    if (strcmp(name, "read") == 0) {
+        doorclover_step r = doorclover_frame_read(data, given_bytes(seed));
+        ANSWER(r.status, r.kind, r.command, r.address, r.length, r.taken);
+    }
+    if (strcmp(name, "replay") == 0) {
+        doorclover_replayed r =
+            doorclover_journal_replay(data, given_bytes(seed), LENT(STORE), LENT(WINDOW), LENT(DESTINATION), LENT(OUTPUT));
+        ANSWER(r.written, r.carried, r.refused, r.early);
+    }
     if (strcmp(name, "host") == 0) {
         span(&a, &n);
         make_bytes(data, n, seed);
         doorclover_written r = doorclover_host_write(LENT(WINDOW), a, data, n);
         ANSWER(r.status, r.bytes, r.fresh);
     }
-    int of_frames = frame_call(answer, seed);
-    if (of_frames >= 0) return of_frames;
+    if (strcmp(name, "write") == 0) {
+        uint64_t kind = number();
+        c = number();
+        span(&a, &n);
+        uint64_t size = number();
+        make_bytes(data, size, seed);
+        doorclover_framed r = doorclover_frame_write(LENT(OUTPUT), kind, c, a, n, data, size);
+        ANSWER(r.status, r.length);
+    }
     if (strncmp(name, "map-", 4) == 0) return map_call(answer, seed);
     if (strcmp(name, "walk") == 0) return walk_call(answer);
     c = number();

@@ -17,14 +17,8 @@ pub struct Frame<'a> {
     pub taken: usize,
 }
 
-/// Reads the frame of a release at the front of the input, or gives the refusal's
-/// number.
-pub fn read(release: usize, input: &[u8]) -> Result<Frame<'_>, u8> {
-    let (spare_bits, shortest) = match release {
-        1 => (5, 0),
-        2 => (6, 1),
-        _ => return Err(33),
-    };
+/// Reads the frame at the front of the input, or gives the refusal's number.
+pub fn read(input: &[u8]) -> Result<Frame<'_>, u8> {
     let Some((head, rest)) = input.split_first_chunk::<HEAD>() else {
         return Err(1);
     };
@@ -32,13 +26,12 @@ pub fn read(release: usize, input: &[u8]) -> Result<Frame<'_>, u8> {
     let bits = u64::from_be_bytes([0, 0, 0, a, b, c, d, e]);
     let field = |below: u32, width: u32| (bits >> below) as usize & ((1 << width) - 1);
     let (kind, command) = (field(37, 3), field(34, 3));
-    let (address, spare) = (field(18, 16), field(0, spare_bits));
-    let stored = field(spare_bits, 18 - spare_bits);
+    let (address, length, spare) = (field(18, 16), field(5, 13), field(0, 5));
     let letter = *LETTERS.get(kind).ok_or(2)?;
-    let (forbidden, length) = match letter {
-        b'B' | b'E' => (address | stored, 0),
-        b'H' => (command, stored + shortest),
-        _ => (0, stored + shortest),
+    let forbidden = match letter {
+        b'B' | b'E' => address | length,
+        b'H' => command,
+        _ => 0,
     };
     if forbidden | spare != 0 {
         return Err(3);

@@ -31,20 +31,8 @@ pub struct Run {
     pub early: bool,
 }
 
-/// Runs a journal of the first release from the fresh state and writes its log.
+/// Runs a journal from the fresh state and writes its log.
 pub fn replay<const CHECKED: bool>(
-    input: &[u8],
-    store: &mut [u8],
-    window: &mut [u8],
-    destination: &mut [u8],
-    output: &mut [u8],
-) -> Run {
-    replay_as::<CHECKED>(1, input, store, window, destination, output)
-}
-
-/// The same with a journal of a release.
-pub fn replay_as<const CHECKED: bool>(
-    release: usize,
     input: &[u8],
     store: &mut [u8],
     window: &mut [u8],
@@ -57,7 +45,7 @@ pub fn replay_as<const CHECKED: bool>(
         destination,
     };
     let mut log = Text::new(output);
-    let run = carry_out::<CHECKED>(release, input, &mut lent, &mut log);
+    let run = carry_out::<CHECKED>(input, &mut lent, &mut log);
     Run {
         written: log.written,
         ..run
@@ -65,18 +53,13 @@ pub fn replay_as<const CHECKED: bool>(
 }
 
 /// Carries out the frames and puts their lines.
-fn carry_out<const CHECKED: bool>(
-    release: usize,
-    input: &[u8],
-    lent: &mut Lent,
-    log: &mut Text,
-) -> Run {
+fn carry_out<const CHECKED: bool>(input: &[u8], lent: &mut Lent, log: &mut Text) -> Run {
     let mut cache = Cache::<CHECKED>::fresh();
     let mut run = Run::default();
     let mut rest = input;
     while !rest.is_empty() && !run.early {
         let number = run.carried + run.refused + 1;
-        match frames::read(release, rest) {
+        match frames::read(rest) {
             Ok(frame) => {
                 rest = &rest[frame.taken..];
                 let answer = call(&mut cache, lent, &frame);

@@ -8,7 +8,7 @@ use crate::call::{answers, Call};
 use crate::cases::{Case, Subject};
 use crate::memory::Desk;
 use crate::programs::Ordinary;
-use plain::journal::replay_as;
+use plain::journal::replay;
 
 /// The bytes of a span: an address and a length.
 const SPAN: usize = 12;
@@ -16,12 +16,7 @@ const SPAN: usize = 12;
 /// The bytes that the calls or frames of interest of a case move.
 pub fn by_case(case: &Case) -> usize {
     match &case.subject {
-        Subject::Journals {
-            release,
-            whole,
-            base,
-            ..
-        } => by_journal(*release, whole) - by_journal(*release, base),
+        Subject::Journals { whole, base, .. } => by_journal(whole) - by_journal(base),
         Subject::Calls { before, unit } => by_calls(before, unit) * case.units,
     }
 }
@@ -42,10 +37,10 @@ fn by_call(call: Call, answer: Answer) -> usize {
     }
 }
 
-fn by_journal(release: usize, journal: &[u8]) -> usize {
+fn by_journal(journal: &[u8]) -> usize {
     let mut desk = Desk::new(true);
     let [store, window, destination, output] = desk.lend();
-    let run = replay_as::<true>(release, journal, store, window, destination, output);
+    let run = replay::<true>(journal, store, window, destination, output);
     let log = String::from_utf8_lossy(desk.log(run.written));
     log.lines().map(by_line).sum()
 }

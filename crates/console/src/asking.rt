@@ -1,4 +1,4 @@
-// What a program is asked to do: options, and a file or none.
+// What a program is asked to do: its one argument, or none.
 use crate::saying::{NOTE, say, say_failed, say_text, tell, within};
 use libc::{PATH_MAX, STDIN_FILENO};
 use octets::put;
@@ -63,27 +63,6 @@ pub fn arguments(program: &[u8], i: usize, usage: &[u8]) -> Asked {
         return Asked::Done;
     }
     input(program, &name[..n], usage)
-}
-
-// The release of frames that argument i names, and 0 if it names none.
-pub fn release(i: usize) -> usize {
-    if is(i, b"1") {
-        return 1;
-    }
-    if is(i, b"2") {
-        return 2;
-    }
-    0
-}
-
-// The same for a program that takes a release of frames. Where that is 0, what is wrong is said, and nothing is done.
-pub fn arguments_in(program: &[u8], release: usize, i: usize, usage: &[u8]) -> Asked {
-    if release == 0 {
-        say_wrong(program, b"--release takes 1 or 2", b"");
-        say_text(usage);
-        return Asked::Done;
-    }
-    arguments(program, i, usage)
 }
 
 fn tell_version(program: &[u8]) {

@@ -27,13 +27,13 @@ step_of_lem (End c) = refl
 step_of_lem (HostWrite a n) = refl
 step_of_lem (OwnWrite c a n) = refl
 
-module _ (release : ℕ) (words store window dest frame : List ℕ) (why : Refusal) (is : read_says release frame ≡ refused (number why)) where
-  unread : is_readable release frame ≡ false
+module _ (words store window dest frame : List ℕ) (why : Refusal) (is : read_says frame ≡ refused (number why)) where
+  unread : is_readable frame ≡ false
   unfolding accepted
   unread = ap accepted is
 
   pub carries_unreadable :
-      Carries release (device_of words store window dest) frame (record { taken = 0; letter = 63; answer = Refused why; delivered = 0 }) words store window dest
+      Carries (device_of words store window dest) frame (record { taken = 0; letter = 63; answer = Refused why; delivered = 0 }) words store window dest
   unfolding frame_says frame_leaves frame_delivers
   carries_unreadable = record {
     taken = sym (ap (λ (r : Reply). get_or (numbers_of r) 0 0) is);
@@ -44,28 +44,28 @@ module _ (release : ℕ) (words store window dest frame : List ℕ) (why : Refus
     delivered = rw unread;
   }
 
-module _ (release : ℕ) (d : Device) (frame : List ℕ) (consumed : ℕ) (step : Step) (is : read_says release frame ≡ replied (consumed ∷ step_numbers step))
+module _ (d : Device) (frame : List ℕ) (consumed : ℕ) (step : Step) (is : read_says frame ≡ replied (consumed ∷ step_numbers step))
     (bytes : List ℕ) (data_is : bytes ≡ data_of frame consumed) where
-  read : is_readable release frame ≡ true
+  read : is_readable frame ≡ true
   unfolding accepted
   read = ap accepted is
 
-  taken_is : taken_up release frame ≡ consumed
+  taken_is : taken_up frame ≡ consumed
   taken_is = ap (λ (r : Reply). get_or (numbers_of r) 0 0) is
 
-  step_is : step_read release frame ≡ step
+  step_is : step_read frame ≡ step
   step_is = ap (λ (r : Reply). step_of (drop 1 (numbers_of r))) is ∙ step_of_lem step
 
   abbrev call : Call
   call = call_of step bytes d.dest d.window
 
-  call_is : frame_call release d frame ≡ call
+  call_is : frame_call d frame ≡ call
   call_is = ap₂ (λ (s : Step) (b : List ℕ). call_of s b d.dest d.window) step_is (ap (data_of frame) taken_is ∙ sym data_is)
 
   pub carries_step :
       {r : Made} {letter : ℕ} {words' store' window' dest' : List ℕ} → letter ≡ (kind_of (get_or (step_numbers step) 0 0)).letter
       → Makes d call r words' store' window' dest'
-      → Carries release d frame (record { taken = consumed; letter = letter; answer = r.answer; delivered = r.delivered }) words' store' window' dest'
+      → Carries d frame (record { taken = consumed; letter = letter; answer = r.answer; delivered = r.delivered }) words' store' window' dest'
   unfolding frame_says frame_leaves frame_delivers
   carries_step l M = record {
     taken = sym taken_is;

@@ -11,20 +11,19 @@ use Rattle.journal.specs.Run.{Replays, fresh_device}
 use Rattle.doorclover.specs.Journal.{Replays as ReplaysFresh}
 
 pub from_fresh :
-    (release : ℕ) (words input store window dest out : List ℕ) (r : Replayed) (early : ℕ) (words' store' window' dest' out' : List ℕ)
-    → state_of words ≡ fresh_state → Replays release (device_of words store window dest) input out r words' store' window' dest' out'
-    → early ≡ cond r.early 1 0
-    → ReplaysFresh release input store window dest out
+    (words input store window dest out : List ℕ) (r : Replayed) (early : ℕ) (words' store' window' dest' out' : List ℕ)
+    → state_of words ≡ fresh_state → Replays (device_of words store window dest) input out r words' store' window' dest' out' → early ≡ cond r.early 1 0
+    → ReplaysFresh input store window dest out
     (record { written = r.written; carried = r.carried; refused = r.refused; early = early })
     store' window' dest' out'
-from_fresh release words input store window dest out r early words' store' window' dest' out' fresh ran is =
+from_fresh words input store window dest out r early words' store' window' dest' out' fresh ran is =
     let device : device_of words store window dest ≡ fresh_device store window dest = λ i. record {
       machine = record { state = fresh i; store = store };
       window = window;
       dest = dest;
     }
     in
-    let R = subst (λ (d : Device). Replays release d input out r words' store' window' dest' out') device ran in
+    let R = subst (λ (d : Device). Replays d input out r words' store' window' dest' out') device ran in
     record {
       log = R.log;
       carried = R.carried;

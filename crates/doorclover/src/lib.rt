@@ -1,5 +1,6 @@
 // What firmware links: every call as a function for C, thin over the proved ones, with its reply as the crate replies gives it from what
 // the call says. A journal has no status, since every journal is run.
+#![tactic(auto)]
 mod frame;
 mod map;
 mod page_walk;
@@ -7,10 +8,7 @@ mod records;
 mod release;
 mod run;
 
-pub use frame::{
-    doorclover_frame_read, doorclover_frame_read_as, doorclover_frame_write,
-    doorclover_frame_write_as,
-};
+pub use frame::{doorclover_frame_read, doorclover_frame_write};
 pub use map::{
     doorclover_map_begin, doorclover_map_end, doorclover_map_fetch, doorclover_map_fresh,
     doorclover_map_own_write,
@@ -21,4 +19,4 @@ pub use records::{
     doorclover_own_write, doorclover_show,
 };
 pub use release::doorclover_release;
-pub use run::{Replayed, doorclover_journal_replay, doorclover_journal_replay_as};
+pub use run::{Replayed, doorclover_journal_replay};

@@ -1,4 +1,4 @@
-// A journal of frames of a release, run from the fresh state; the name without `_as` is that of release 1.
+// A journal of frames, run from the fresh state.
 ghost use Rattle.std.specs.Prelude.{◌≡◌, cond};
 ghost use Rattle.doorclover.specs.Journal.{Replays};
 
@@ -22,35 +22,6 @@ fn one_if(test: bool) -> u32
 }
 
 #[unsafe(no_mangle)]
-pub extern "C" fn doorclover_journal_replay_as(
-    release: usize,
-    input: &[u8],
-    store: &mut [u8],
-    window: &mut [u8],
-    destination: &mut [u8],
-    output: &mut [u8],
-) -> Replayed
-    ensures { Replays release input.now store.old window.old destination.old output.old result store.new window.new destination.new output.new }
-{
-    let mut state = CacheState::fresh();
-    let r = replay::replay(
-        release,
-        input,
-        &mut state.words,
-        store,
-        window,
-        destination,
-        output,
-    );
-    Replayed {
-        written: r.written,
-        carried: r.carried,
-        refused: r.refused,
-        early: one_if(r.early),
-    }
-}
-
-#[unsafe(no_mangle)]
 pub extern "C" fn doorclover_journal_replay(
     input: &[u8],
     store: &mut [u8],
@@ -58,7 +29,14 @@ pub extern "C" fn doorclover_journal_replay(
     destination: &mut [u8],
     output: &mut [u8],
 ) -> Replayed
-    ensures { Replays 1 input.now store.old window.old destination.old output.old result store.new window.new destination.new output.new }
+    ensures { Replays input.now store.old window.old destination.old output.old result store.new window.new destination.new output.new }
 {
-    doorclover_journal_replay_as(1, input, store, window, destination, output)
+    let mut state = CacheState::fresh();
+    let r = replay::replay(input, &mut state.words, store, window, destination, output);
+    Replayed {
+        written: r.written,
+        carried: r.carried,
+        refused: r.refused,
+        early: one_if(r.early),
+    }
 }

@@ -1,4 +1,5 @@
-// An entry of the log: one frame of a release is carried out, and its line is made.
+// An entry of the log: one frame is carried out, and its line is made.
+#![tactic(auto)]
 ghost use Rattle.device.specs.Step.{device_of};
 ghost use Rattle.entry.specs.Logs.{Logs};
 
@@ -15,7 +16,6 @@ pub struct Logged {
 
 // The line is put into the output from `at` on, as far as it fits.
 pub fn log_frame(
-    release: usize,
     number: usize,
     frame: &[u8],
     state: &mut [u16; CacheState::WORDS],
@@ -25,9 +25,9 @@ pub fn log_frame(
     output: &mut [u8],
     at: usize,
 ) -> Logged
-    ensures { Logs release (device_of state.old store.old window.old destination.old) number frame.now output.old at result state.new store.new window.new destination.new output.new }
+    ensures { Logs (device_of state.old store.old window.old destination.old) number frame.now output.old at result state.new store.new window.new destination.new output.new }
 {
-    let carried = carry_out(release, frame, state, store, window, destination);
+    let carried = carry_out(frame, state, store, window, destination);
     let answer = carried.answer;
     let delivered = carried.delivered;
     let next = log::put_line(

@@ -1,4 +1,4 @@
-// One frame of a release is carried out: read, and its call made.
+// One frame is carried out: read, and its call made.
 ghost use Rattle.std.specs.Prelude.{◌≡◌, get_or};
 ghost use Rattle.kinds.specs.Table.{kind_of};
 ghost use Rattle.frames.specs.Read.{step_numbers};
@@ -27,16 +27,15 @@ fn letter(step: Step) -> u8
 }
 
 pub fn carry_out(
-    release: usize,
     frame: &[u8],
     state: &mut [u16; CacheState::WORDS],
     store: &mut [u8],
     window: &mut [u8],
     destination: &mut [u8],
 ) -> Carried
-    ensures { Carries release (device_of state.old store.old window.old destination.old) frame.now result state.new store.new window.new destination.new }
+    ensures { Carries (device_of state.old store.old window.old destination.old) frame.now result state.new store.new window.new destination.new }
 {
-    let reading = frames::read(release, frame);
+    let reading = frames::read(frame);
     match reading {
         ReadAnswer::Refused(why) => Carried {
             taken: 0,

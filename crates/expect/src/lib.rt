@@ -1,4 +1,5 @@
 // What is expected of a step, and whether an answer meets it.
+#![tactic(auto)]
 ghost use Rattle.std.specs.Prelude.{◌≡◌, [], ◌+◌, ◌≤◌, ltb, eqb, length, drop, get_or};
 ghost use Rattle.scan.specs.Scan.{front};
 ghost use Rattle.expect.specs.Expect.{expected, words_of, lower, same, is_verdict, delivers, meets};

@@ -1,4 +1,5 @@
-// Carries out frames of a release, or steps as lines, and says of each in words what it did. Holds what the lines expect against what came.
+// Carries out frames, or steps as lines, and says of each in words what it did. Holds what the lines expect against what came.
+#![tactic(auto)]
 use console::Asked;
 use numbers::{minus, one_if};
 use octets::put;
@@ -9,41 +10,25 @@ mod checking;
 mod run;
 mod unit;
 
-// The two options stand in either order.
 fn main() {
-    let before = console::is(1, b"--frames");
-    let named = console::is(1 + one_if(before), b"--release");
-    let release = if named {
-        console::release(2 + one_if(before))
-    } else {
-        1
-    };
-    let behind = if before {
-        false
-    } else {
-        console::is(1 + 2 * one_if(named), b"--frames")
-    };
-    let first = 1 + one_if(before) + 2 * one_if(named) + one_if(behind);
-    if let Asked::Input(fd) = ask(release, first) {
-        read(release, fd, before || behind);
+    let frames = console::is(1, b"--frames");
+    if let Asked::Input(fd) = ask(1 + one_if(frames)) {
+        read(fd, frames);
     }
 }
 
-// The arguments from the first on that is no option.
-fn ask(release: usize, first: usize) -> Asked {
-    console::arguments_in(
+// The arguments from the first on.
+fn ask(first: usize) -> Asked {
+    console::arguments(
         b"explain",
-        release,
         first,
-        b"usage: explain [--release N] [STEPS]\n\
-        \x20      explain [--release N] --frames [FRAMES]\n\
+        b"usage: explain [STEPS]\n\
+        \x20      explain --frames [FRAMES]\n\
         \x20      explain --help | --version\n\
         \n\
         Carries out steps, or frames, as fetchlog does, and prints a line in words for\n\
         each. STEPS is a file as framewriter reads it, at most 1048576 bytes; FRAMES a\n\
         file as fetchlog reads it, at most 32768 bytes; '-' or none is standard input.\n\
-        N is the release of the frames, also of those that steps are run as: 1, or 2 as\n\
-        fetchlog2 reads it; without it 1.\n\
         \n\
         Behind '=' a step may say what is expected of it, as the log prints it:\n\
         \n\
@@ -63,30 +48,30 @@ fn ask(release: usize, first: usize) -> Asked {
 }
 
 // The input is frames, or a line of it is a step.
-fn read(release: usize, fd: i32, frames: bool) {
+fn read(fd: i32, frames: bool) {
     let mut input = script::room();
     let reading = console::read_whole(b"explain", fd, &mut input);
     if reading.whole {
         let n = reading.count;
-        run_all(release, &input[..n], frames);
+        run_all(&input[..n], frames);
     }
 }
 
-fn run_all(release: usize, input: &[u8], frames: bool) {
+fn run_all(input: &[u8], frames: bool) {
     if frames {
-        run_frames(release, input);
+        run_frames(input);
     } else {
-        run_steps(release, input);
+        run_steps(input);
     }
 }
 
-fn run_frames(release: usize, input: &[u8]) {
+fn run_frames(input: &[u8]) {
     if input.len() > journal::MOST {
         say_if_text(input);
         console::say_text(b"explain: the input is above 32768 bytes, nothing is run\n");
         return;
     }
-    let tally = run::explain(release, false, input);
+    let tally = run::explain(false, input);
     if tally.early {
         say_if_text(input);
     }
@@ -100,8 +85,8 @@ fn say_if_text(input: &[u8]) {
     }
 }
 
-fn run_steps(release: usize, input: &[u8]) {
-    match script::judge(release, b"explain", input) {
+fn run_steps(input: &[u8]) {
+    match script::judge(b"explain", input) {
         Judgement::TooLong => {
             console::say_text(b"explain: the input is above 1048576 bytes, nothing is run\n")
         }
@@ -109,7 +94,7 @@ fn run_steps(release: usize, input: &[u8]) {
             if 0 < judged.bad {
                 say_bad(input, judged.bad);
             } else {
-                sum_up(run::explain(release, true, input));
+                sum_up(run::explain(true, input));
             }
         }
     }

@@ -35,7 +35,6 @@ fn write(line: &mut [u8], at: usize, wanted: bool) -> bool {
 
 // What is left of the input, as a frame or as a line of steps.
 fn next_unit(
-    release: usize,
     by_lines: bool,
     number: usize,
     place: usize,
@@ -46,7 +45,7 @@ fn next_unit(
 ) -> Unit {
     if by_lines {
         let end = line_end(rest);
-        return next_line(release, number, place, &rest[..end], buffer, frame, line);
+        return next_line(number, place, &rest[..end], buffer, frame, line);
     }
     next_frame(number, rest, frame, line)
 }
@@ -141,7 +140,6 @@ fn has_failed(met: Met) -> bool {
 
 // A frame whose line has begun. What the log prints of it takes the place of the line, once that is written.
 fn tell_frame(
-    release: usize,
     by_lines: bool,
     number: usize,
     place: usize,
@@ -156,11 +154,11 @@ fn tell_frame(
     wanted: bool,
 ) -> Told {
     let before = *state;
-    let carried = execution::carry_out(release, frame, state, store, window, destination);
+    let carried = execution::carry_out(frame, state, store, window, destination);
     let answer = carried.answer;
     let n = console::within(destination, carried.delivered);
     let delivered = &destination[..n];
-    let next = put_words(line, at, release, frame, answer, &before, state, delivered);
+    let next = put_words(line, at, frame, answer, &before, state, delivered);
     let kept = write(line, next, wanted);
     let logged = log::put_line(line, 0, number, carried.letter, answer, delivered);
     let met = met(by_lines, place, rest, line, logged);
@@ -176,7 +174,6 @@ fn tell_frame(
 
 // What is left of the input begins with a unit. Its frame's data pass through the destination.
 fn tell(
-    release: usize,
     by_lines: bool,
     number: usize,
     place: usize,
@@ -189,22 +186,12 @@ fn tell(
     line: &mut [u8],
     wanted: bool,
 ) -> Told {
-    let unit = next_unit(
-        release,
-        by_lines,
-        number,
-        place,
-        rest,
-        destination,
-        frame,
-        line,
-    );
+    let unit = next_unit(by_lines, number, place, rest, destination, frame, line);
     if unit.size == 0 {
         return nothing();
     }
     let n = console::within(frame, unit.size);
     tell_frame(
-        release,
         by_lines,
         number,
         place,
@@ -243,7 +230,7 @@ fn none() -> Tally {
     }
 }
 
-pub(crate) fn explain(release: usize, by_lines: bool, input: &[u8]) -> Tally {
+pub(crate) fn explain(by_lines: bool, input: &[u8]) -> Tally {
     let mut state = CacheState::fresh();
     let mut store = [0u8; CacheState::STORE];
     let mut window = [0u8; WINDOW];
@@ -256,7 +243,6 @@ pub(crate) fn explain(release: usize, by_lines: bool, input: &[u8]) -> Tally {
     while at < input.len() {
         place = count(place, true);
         let told = tell(
-            release,
             by_lines,
             count(tally.frames, true),
             place,

@@ -32,15 +32,14 @@ pub(crate) fn next_frame(number: usize, rest: &[u8], frame: &mut [u8], line: &mu
 }
 
 // How long the frame of a line is, which has none if it is blank.
-fn frame_size(release: usize, step: &[u8], buffer: &mut [u8], frame: &mut [u8]) -> usize {
-    match steps::frame_of(release, step, buffer, frame) {
+fn frame_size(step: &[u8], buffer: &mut [u8], frame: &mut [u8]) -> usize {
+    match steps::frame_of(step, buffer, frame) {
         Framed::Frame(size) => size,
         _ => 0,
     }
 }
 
 pub(crate) fn next_line(
-    release: usize,
     number: usize,
     place: usize,
     step: &[u8],
@@ -54,7 +53,7 @@ pub(crate) fn next_line(
     let next = put(line, next, b": ");
     let next = put_step(line, next, step);
     Unit {
-        size: frame_size(release, step, buffer, frame),
+        size: frame_size(step, buffer, frame),
         at: put(line, next, b") "),
     }
 }

@@ -1,4 +1,114 @@
-// The log program for frames of release 1.
+// Reads a journal of frames, and prints its log: a line for each frame, up to the first that is unreadable.
+#![tactic(auto)]
+use console::Asked;
+use octets::put;
+use printing::{LINE, Printed};
+use state::CacheState;
+
+mod printing;
+
+// One byte more than a journal may have, which tells that there are more.
+const INPUT: usize = journal::MOST + 1;
+
+// The window of the log program.
+const WINDOW: usize = 16384;
+
 fn main() {
-    printlog::run(b"fetchlog", 1);
+    if let Asked::Input(fd) = ask() {
+        run(fd);
+    }
+}
+
+fn ask() -> Asked {
+    console::arguments(
+        b"fetchlog",
+        1,
+        b"usage: fetchlog [FRAMES] > LOG\n\
+        \x20      fetchlog --help | --version\n\
+        \n\
+        FRAMES is a file of step frames one behind the other, at most 32768 bytes;\n\
+        '-' or none is standard input. LOG has a line for each frame, up to the first\n\
+        that cannot be read.\n\
+        \n\
+        The exit status is always 0. A run that read its input and lost nothing ends,\n\
+        on standard error, with a line such as\n\
+        \n\
+        \x20 fetchlog: 9 frames, 9 ok, 0 refused\n\
+        \n\
+        and no other run ends in a number and 'refused'. So in a script:\n\
+        \n\
+        \x20 fetchlog FRAMES > LOG 2> NOTES; tail -n 1 NOTES | grep -qE ' [0-9]+ refused$'\n",
+    )
+}
+
+fn run(fd: i32) {
+    let mut input = [0u8; INPUT];
+    let reading = console::read_whole(b"fetchlog", fd, &mut input);
+    if reading.whole {
+        let n = reading.count;
+        run_all(&input[..n]);
+    }
+}
+
+fn run_all(input: &[u8]) {
+    if input.len() > journal::MOST {
+        refuse(input);
+    } else {
+        print(input);
+    }
+}
+
+// What document 01 (the agreed scope; docs/RULES.md has its rules) prints for an input that is too long.
+fn refuse(input: &[u8]) {
+    console::tell(b"fetchlog", b"input too long\n");
+    say_if_text(input);
+    console::say_text(b"fetchlog: the input is above 32768 bytes, no frame is run\n");
+}
+
+fn print(input: &[u8]) {
+    let mut state = CacheState::fresh();
+    let mut store = [0u8; CacheState::STORE];
+    let mut window = [0u8; WINDOW];
+    let mut destination = [0u8; CacheState::TRANSFER];
+    let mut line = [0u8; LINE];
+    let printed = printing::print_log(
+        input,
+        &mut state.words,
+        &mut store,
+        &mut window,
+        &mut destination,
+        &mut line,
+    );
+    if printed.early {
+        say_if_text(input);
+    }
+    sum_up(printed);
+}
+
+// Steps that are given for frames.
+fn say_if_text(input: &[u8]) {
+    if textlike::looks_like_text(input) {
+        console::say_text(
+            b"fetchlog: the input looks like steps; framewriter makes frames of steps\n",
+        );
+    }
+}
+
+// The last line on standard error.
+fn sum_up(printed: Printed) {
+    let frames = printed.frames;
+    let kept = printed.kept;
+    let mut note = [0u8; console::NOTE];
+    let next = put(&mut note, 0, b"fetchlog: ");
+    let next = counting::put_run(
+        &mut note,
+        next,
+        frames,
+        printed.carried,
+        printed.refused,
+        printed.early,
+    );
+    let next = counting::put_lost(&mut note, next, b", log lost from line ", frames, kept);
+    let next = put(&mut note, next, b"\n");
+    console::say(&note, next);
 }

@@ -1,4 +1,5 @@
 // The fields of a line of steps: words that stand for numbers, and one that stands for data; what they mean for a kind of step.
+#![tactic(auto)]
 mod meanings;
 mod words;
 

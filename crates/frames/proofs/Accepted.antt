@@ -4,21 +4,18 @@ use native.Mathlib.Omega.{arith}
 use mathlib.Core.Path.{◌≡◌, ap, sym, ◌∙◌}
 use mathlib.Core.List.{[], ◌∷◌}
 use mathlib.Core.Bool.{true, false}
-use lib.Pow.{pow_pos}
 use borrow.Author.Tests.{le-ltb, lt-ltb, ltb-true, ltb-false, lt-leb, leb-false, eq-eqb, eqb-true, not-false}
 use Rattle.state.specs.Limits.{command_limit, transfer_limit, window_limit}
 use Rattle.state.specs.Verdict.{Reply, replied, accepted, verdict}
 use Rattle.state.proofs.Verdict.{none_applies}
 use Rattle.frames.specs.declared.WriteAnswer.{WriteAnswer}
 use Rattle.frames.specs.Bits.{fit}
-use Rattle.frames.specs.Layout.{head_size, is_release, spare_bits, field_widths, least_length}
+use Rattle.frames.specs.Layout.{field_widths, head_size}
 use Rattle.frames.specs.Kinds.{data_size, frame_size}
 use Rattle.frames.specs.Checks.{zero_broken}
 use Rattle.frames.specs.Read.{fields_say}
 use Rattle.frames.specs.Write.{write_reply, write_says}
-use Rattle.frames.proofs.Releases.{length_fits}
 use Rattle.frames.proofs.Heads.{below_fields}
-use Rattle.frames.proofs.Zeros.{zeros}
 
 module _ (given kind command address size spare : ℕ) where
   pub record Readable : Type 0 where
@@ -47,51 +44,38 @@ module _ (given kind command address size spare : ℕ) where
   reads r =
       rw (le-ltb given head_size r.long, lt-ltb kind 5 r.known, r.zero, le-ltb transfer_limit size r.short, le-ltb (given - head_size) (data_size kind size) (omega arith))
 
-module _ (release kind command address size given room : ℕ) where
+module _ (kind command address size given room : ℕ) where
   pub record Writable : Type 0 where
-    pub named : is_release release ≡ true
     pub known : kind < 5
     pub zero : zero_broken kind command address size 0 ≡ false
     pub short : size ≤ transfer_limit
     pub same : given ≡ data_size kind size
-    pub least : least_length release kind ≤ size
     pub commands : command < command_limit
     pub fits : frame_size kind size ≤ room
     pub low : address < window_limit
 
-  pub writable : accepted (write_says release kind command address size given room) ≡ true → Writable
+  pub writable : accepted (write_says kind command address size given room) ≡ true → Writable
   unfolding write_says
   writable e =
       let h = none_applies _ _ e in
-      let k = h.1.1.1.1 in
       record {
-        named = not-false _ h.0;
-        known = ltb-true kind 5 (not-false _ h.1.0);
-        zero = h.1.1.0;
-        short = ltb-false _ _ h.1.1.1.0;
-        same = eqb-true _ _ (not-false _ k.0);
-        least = ltb-false _ _ k.1.0;
-        commands = leb-false _ _ k.1.1.0;
-        fits = ltb-false _ _ k.1.1.1.0;
-        low = leb-false _ _ k.1.1.1.1.0;
+        known = ltb-true kind 5 (not-false _ h.0);
+        zero = h.1.0;
+        short = ltb-false _ _ h.1.1.0;
+        same = eqb-true _ _ (not-false _ h.1.1.1.0);
+        commands = leb-false _ _ h.1.1.1.1.0;
+        fits = ltb-false _ _ h.1.1.1.1.1.0;
+        low = leb-false _ _ h.1.1.1.1.1.1.0;
       }
 
-  pub writes : Writable → write_says release kind command address size given room ≡ replied (frame_size kind size ∷ [])
+  pub writes : Writable → write_says kind command address size given room ≡ replied (frame_size kind size ∷ [])
   unfolding write_says verdict
   writes w =
-      rw (w.named, lt-ltb kind 5 w.known, w.zero, le-ltb transfer_limit size w.short, eq-eqb given (data_size kind size) w.same)
-      (rw (le-ltb size (least_length release kind) w.least, lt-leb command_limit command w.commands, le-ltb room _ w.fits, lt-leb window_limit address w.low))
+      rw (lt-ltb kind 5 w.known, w.zero, le-ltb transfer_limit size w.short, eq-eqb given (data_size kind size) w.same, lt-leb command_limit command w.commands, le-ltb room _ w.fits, lt-leb window_limit address w.low)
 
   -- the fields of a step that the writer accepts fit their widths
-  pub writable_fit : Writable → fit (field_widths release) (kind ∷ command ∷ address ∷ (size - least_length release kind) ∷ 0 ∷ []) ≡ true
-  writable_fit w =
-      below_fields release kind command address (size - least_length release kind) 0 record {
-        kinds = omega (arith, w.known);
-        commands = w.commands;
-        addresses = w.low;
-        sizes = length_fits release kind size w.short (zeros kind command address size 0 w.zero).size_zero;
-        spares = pow_pos (spare_bits release);
-      }
+  pub writable_fit : Writable → fit field_widths (kind ∷ command ∷ address ∷ size ∷ 0 ∷ []) ≡ true
+  writable_fit w = below_fields kind command address size 0 (omega arith)
 
 -- whether a reply accepts, by the case of the writer's answer that it is
 pub answered : (r : Reply) {w v : WriteAnswer} → write_reply w ≡ r → w ≡ v → accepted r ≡ accepted (write_reply v)

@@ -1,10 +1,8 @@
 pub mod Bits
 pub mod Sizes
-pub mod Releases
 pub mod Heads
 pub mod Zeros
 pub mod Accepted
-pub mod Second
 pub mod Order
 pub mod Claims
 pub mod Worked

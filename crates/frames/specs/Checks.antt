@@ -1,17 +1,13 @@
--- The reasons to turn a frame away that no other call has, each stated once, in the order in which they are judged: by the numbers of 01 (the
--- agreed scope), with 33 before all others and 34 after 5 (02, the agreed changes, F-7; docs/RULES.md has their rules).
+-- The reasons to turn a frame away that no other call has, each stated once, in the order of the numbers of 01 (the agreed
+-- scope; docs/RULES.md has its rules).
 use Rattle.std.specs.Prelude.{ℕ, ◌-◌, Bool, true, not, ◌&&◌, ◌||◌, ltb, leb, eqb}
-use Rattle.state.specs.declared.refusal.Refusal.TheVariants.{UnknownRelease, FrameTooShort, UnknownKind, FieldNotZero, DataMismatch, LengthZero, AddressTooHigh}
+use Rattle.state.specs.declared.refusal.Refusal.TheVariants.{FrameTooShort, UnknownKind, FieldNotZero, DataMismatch, AddressTooHigh}
 use Rattle.state.specs.Limits.{window_limit}
 use Rattle.state.specs.Refusals.{number}
 use Rattle.state.specs.Verdict.{Check, ◌⇒◌}
-use Rattle.frames.specs.Layout.{head_size, is_release, least_length}
+use Rattle.frames.specs.Layout.{head_size}
 use Rattle.kinds.specs.Table.{is_kind, kind_of}
 use Rattle.frames.specs.Kinds.{data_size}
-
--- 33: what is no release
-abbrev pub unknown_release : (release : ℕ) → Check
-unknown_release release = not (is_release release) ⇒ number UnknownRelease
 
 -- 1: too few bytes for a head
 abbrev pub frame_too_short : (given : ℕ) → Check
@@ -42,10 +38,6 @@ data_missing given kind size = ltb (given - head_size) (data_size kind size) ⇒
 -- 5, of the writer: another number of bytes than the data of the frame, which is none for a kind without data
 abbrev pub data_mismatch : (given kind size : ℕ) → Check
 data_mismatch given kind size = not (eqb given (data_size kind size)) ⇒ number DataMismatch
-
--- 34, of the writer: a length below the least that its field can stand for, so 0 for kinds 1, 3 and 4 in release 2
-abbrev pub length_zero : (release kind size : ℕ) → Check
-length_zero release kind size = ltb size (least_length release kind) ⇒ number LengthZero
 
 -- 11: there is no such address
 abbrev pub address_too_high : (address : ℕ) → Check

@@ -1,5 +1,5 @@
--- Reading a frame of a release (01, the agreed scope, "Step frames"; 02, the agreed changes, F-7; docs/RULES.md has their rules): the step and
--- the number of bytes that it took up, or a refusal.
+-- Reading a frame (01, the agreed scope, "Step frames"; docs/RULES.md has its rules): the step and the number of bytes that it took up,
+-- or a refusal.
 use Rattle.std.specs.Prelude.{ℕ, ◌-◌, List, [], ◌∷◌, cond, ◌&&◌, leb, length, get_or}
 use Rattle.octets.specs.Lists.{part}
 use Rattle.state.specs.Refusals.{number}
@@ -11,7 +11,7 @@ use Rattle.frames.specs.declared.ReadAnswer.{ReadAnswer}
 use Rattle.frames.specs.declared.ReadAnswer.TheVariants.{Step as Took, Refused}
 use Rattle.frames.specs.Layout.{head_size, fields_of}
 use Rattle.frames.specs.Kinds.{frame_size}
-use Rattle.frames.specs.Checks.{unknown_release, frame_too_short, unknown_kind, field_not_zero, data_missing}
+use Rattle.frames.specs.Checks.{frame_too_short, unknown_kind, field_not_zero, data_missing}
 
 -- 01's numbers of a step: kind, command, address, length
 abbrev pub step_numbers : Step → List ℕ
@@ -37,11 +37,11 @@ module _ (given kind command address size spare : ℕ) where
   unfoldable pub fields_say : Reply
   fields_say = verdict read_checks (replied (frame_size kind size ∷ kind ∷ command ∷ address ∷ size ∷ []))
 
--- the reader's answer, for any release and any bytes: 33 before all others, and else what the fields say
-unfoldable pub read_says : (release : ℕ) (frame : List ℕ) → Reply
-read_says release frame =
-    let f = fields_of release frame in
-    verdict (unknown_release release ∷ []) (fields_say (length frame) (get_or f 0 0) (get_or f 1 0) (get_or f 2 0) (get_or f 3 0) (get_or f 4 0))
+-- the reader's answer, for any bytes
+unfoldable pub read_says : (frame : List ℕ) → Reply
+read_says frame =
+    let f = fields_of frame in
+    fields_say (length frame) (get_or f 0 0) (get_or f 1 0) (get_or f 2 0) (get_or f 3 0) (get_or f 4 0)
 
 -- the step's data: the bytes from the head on, up to the number taken up; nothing where that number is not one of this frame
 abbrev pub data_of : (frame : List ℕ) (consumed : ℕ) → List ℕ

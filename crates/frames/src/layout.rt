@@ -1,13 +1,9 @@
-// The head of a frame, in either release: five bytes that hold five fields, the first in the most significant bits.
-ghost use Rattle.std.specs.Prelude.{◌≡◌, true, [], ◌∷◌, ◌-◌, ◌<◌, ◌≤◌, ◌^◌, length};
+// The head of a frame: five bytes that hold five fields, the first in the most significant bits.
+ghost use Rattle.std.specs.Prelude.{◌≡◌, true, [], ◌∷◌, ◌<◌, ◌≤◌, ◌^◌, length};
 ghost use Rattle.octets.specs.Lists.{overwrite};
 ghost use Rattle.frames.specs.Bits.{bits, pack, unpack, fit};
-ghost use Rattle.frames.specs.Layout.{head_size, is_release, spare_bits, field_widths, byte_widths, least_length, fields_in, fields_of};
-ghost use Rattle.frames.specs.Layout.{head_number, head_fields};
+ghost use Rattle.frames.specs.Layout.{field_widths, byte_widths, head_size, fields_of, head_fields};
 
-use kinds::span_zero;
-
-// The length is that of the step, whatever its field holds.
 #[derive(Drop)]
 pub(crate) struct Head {
     pub kind: usize,
@@ -19,14 +15,10 @@ pub(crate) struct Head {
 
 pub(crate) const HEAD: usize = 5;
 
-// How many numbers the bits below a field hold: each has the width of the next field more. Below the length these are 5 bits in release 1 and 6
-// in release 2.
-const FIRST_BELOW_SIZE: usize = 1 << 5;
+// How many numbers the bits below a field hold: each has the width of the next field more.
+const BELOW_SIZE: usize = 1 << 5;
 
-const SECOND_BELOW_SIZE: usize = 1 << 6;
-
-// The length has 13 bits in release 1, and in release 2 one less: 12.
-const BELOW_ADDRESS: usize = FIRST_BELOW_SIZE << 13;
+const BELOW_ADDRESS: usize = BELOW_SIZE << 13;
 
 const BELOW_COMMAND: usize = BELOW_ADDRESS << 16;
 
@@ -39,32 +31,6 @@ const BELOW_THIRD: usize = BELOW_FOURTH << 8;
 const BELOW_SECOND: usize = BELOW_THIRD << 8;
 
 const BELOW_FIRST: usize = BELOW_SECOND << 8;
-
-pub(crate) fn is_release(release: usize) -> bool
-    ensures { result ≡ is_release release }
-{
-    release == 1 || release == 2
-}
-
-fn below_size(release: usize) -> usize
-    ensures { result ≡ 2 ^ spare_bits release }
-{
-    if release == 2 {
-        SECOND_BELOW_SIZE
-    } else {
-        FIRST_BELOW_SIZE
-    }
-}
-
-// The length that a length field of zero stands for.
-pub(crate) fn least_length(release: usize, kind: usize) -> usize
-    ensures { result ≡ least_length release kind }
-{
-    if release != 2 {
-        return 0;
-    }
-    if span_zero(kind) { 0 } else { 1 }
-}
 
 fn wide(byte: u8) -> usize
     ensures { (result ≡ byte) × (result < 256) }
@@ -92,46 +58,34 @@ fn number(frame: &[u8]) -> usize
 }
 
 // The fields that stand in a number.
-fn fields(release: usize, n: usize) -> Head
-    ensures { head_fields result ≡ fields_in release n }
+fn fields(n: usize) -> Head
+    ensures { head_fields result ≡ unpack field_widths n }
 {
-    let below_size = below_size(release);
     let below_kind = n % BELOW_KIND;
     let below_command = below_kind % BELOW_COMMAND;
     let below_address = below_command % BELOW_ADDRESS;
-    let kind = n / BELOW_KIND;
     Head {
-        kind,
+        kind: n / BELOW_KIND,
         command: below_kind / BELOW_COMMAND,
         address: below_command / BELOW_ADDRESS,
-        size: below_address / below_size + least_length(release, kind),
-        spare: below_address % below_size,
+        size: below_address / BELOW_SIZE,
+        spare: below_address % BELOW_SIZE,
     }
 }
 
-pub(crate) fn read_head(release: usize, frame: &[u8]) -> Head
+pub(crate) fn read_head(frame: &[u8]) -> Head
     requires { head_size ≤ length frame.now }
-    ensures { head_fields result ≡ fields_of release frame.now }
+    ensures { head_fields result ≡ fields_of frame.now }
 {
-    fields(release, number(frame))
+    fields(number(frame))
 }
 
 // The number in which the fields stand, with the spare bits zero.
-pub(crate) fn packed(
-    release: usize,
-    kind: usize,
-    command: usize,
-    address: usize,
-    size: usize,
-) -> usize
-    requires { (least_length release kind ≤ size) × (fit (field_widths release) (kind ∷ command ∷ address ∷ (size - least_length release kind) ∷ 0 ∷ []) ≡ true) }
-    ensures { result ≡ head_number release kind command address size 0 }
+pub(crate) fn packed(kind: usize, command: usize, address: usize, size: usize) -> usize
+    requires { fit field_widths (kind ∷ command ∷ address ∷ size ∷ 0 ∷ []) ≡ true }
+    ensures { result ≡ pack field_widths (kind ∷ command ∷ address ∷ size ∷ 0 ∷ []) }
 {
-    let field = size - least_length(release, kind);
-    kind * BELOW_KIND
-        + command * BELOW_COMMAND
-        + address * BELOW_ADDRESS
-        + field * below_size(release)
+    kind * BELOW_KIND + command * BELOW_COMMAND + address * BELOW_ADDRESS + size * BELOW_SIZE
 }
 
 // Puts the bytes of a number at the front of the output.

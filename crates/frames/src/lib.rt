@@ -1,4 +1,5 @@
 // Step frames: the reader and the writer.
+#![tactic(auto)]
 use state::Refusal;
 
 mod checks;

@@ -1,4 +1,4 @@
-// Reads a frame of a release: the step and the number of bytes that it took up, or a refusal.
+// Reads a frame: the step and the number of bytes that it took up, or a refusal.
 ghost use Rattle.std.specs.Prelude.{◌≡◌, [], ◌∷◌, true, false, ◌≤◌};
 ghost use Rattle.frames.specs.Layout.{head_size};
 ghost use Rattle.kinds.specs.Table.{is_kind};
@@ -11,17 +11,13 @@ use crate::{Parsed, ReadAnswer, Step, layout};
 use kinds::allowed;
 use state::{CacheState, Refusal};
 
-pub fn read(release: usize, frame: &[u8]) -> ReadAnswer
-    ensures { read_reply result ≡ read_says release frame.now }
+pub fn read(frame: &[u8]) -> ReadAnswer
+    ensures { read_reply result ≡ read_says frame.now }
 {
-    let known = layout::is_release(release);
-    if !known {
-        return ReadAnswer::Refused(Refusal::UnknownRelease);
-    }
     if frame.len() < HEAD {
         return ReadAnswer::Refused(Refusal::FrameTooShort);
     }
-    judge(frame.len(), layout::read_head(release, frame))
+    judge(frame.len(), layout::read_head(frame))
 }
 
 // What the fields of a frame of `given` bytes say.

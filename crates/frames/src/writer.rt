@@ -1,4 +1,4 @@
-// Writes a frame of a release to the front of an output, or refuses and leaves the output as it is.
+// Writes a frame to the front of an output, or refuses and leaves the output as it is.
 ghost use Rattle.std.specs.Prelude.{◌≡◌, length};
 ghost use Rattle.frames.specs.Write.{write_reply, write_says, write_output};
 
@@ -9,7 +9,6 @@ use kinds::allowed;
 use state::{CacheState, Refusal};
 
 pub fn write(
-    release: usize,
     kind: usize,
     command: usize,
     address: usize,
@@ -17,32 +16,20 @@ pub fn write(
     data: &[u8],
     output: &mut [u8],
 ) -> WriteAnswer
-    ensures reply { write_reply result ≡ write_says release kind command address size (length «data».now) (length output.old) }
-    ensures output { output.new ≡ write_output release kind command address size «data».now output.old }
+    ensures reply { write_reply result ≡ write_says kind command address size (length «data».now) (length output.old) }
+    ensures output { output.new ≡ write_output kind command address size «data».now output.old }
 {
-    let answer = judge(
-        release,
-        kind,
-        command,
-        address,
-        size,
-        data.len(),
-        output.len(),
-    );
+    let answer = judge(kind, command, address, size, data.len(), output.len());
     let WriteAnswer::Written(_) = answer else {
         return answer;
     };
-    layout::write_head(
-        output,
-        layout::packed(release, kind, command, address, size),
-    );
+    layout::write_head(output, layout::packed(kind, command, address, size));
     octets::copy_at(output, HEAD, data);
     answer
 }
 
 // What is said of a step with `given` bytes of data and an output of `room` bytes.
 fn judge(
-    release: usize,
     kind: usize,
     command: usize,
     address: usize,
@@ -50,11 +37,8 @@ fn judge(
     given: usize,
     room: usize,
 ) -> WriteAnswer
-    ensures { write_reply result ≡ write_says release kind command address size given room }
+    ensures { write_reply result ≡ write_says kind command address size given room }
 {
-    if !layout::is_release(release) {
-        return WriteAnswer::Refused(Refusal::UnknownRelease);
-    }
     if !allowed(kind) {
         return WriteAnswer::Refused(Refusal::UnknownKind);
     }
@@ -65,12 +49,8 @@ fn judge(
         return WriteAnswer::Refused(Refusal::LengthTooLong);
     }
     let follow = data_size(kind, size);
-    let least = layout::least_length(release, kind);
     if given != follow {
         return WriteAnswer::Refused(Refusal::DataMismatch);
-    }
-    if size < least {
-        return WriteAnswer::Refused(Refusal::LengthZero);
     }
     if command >= CacheState::COMMANDS {
         return WriteAnswer::Refused(Refusal::CommandTooHigh);

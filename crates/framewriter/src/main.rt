@@ -1,5 +1,5 @@
-// Reads steps, one a line, and writes their frames, in the release that is asked for. All lines are judged first: if one of them has no frame,
-// nothing is written.
+// Reads steps, one a line, and writes their frames. All lines are judged first: if one of them has no frame, nothing is written.
+#![tactic(auto)]
 use console::Asked;
 use numbers::one_if;
 use octets::put;
@@ -8,29 +8,24 @@ use script::{Judged, Judgement};
 use state::CacheState;
 use steps::Framed;
 
-// The most bytes of a journal that a log program takes.
+// The most bytes of a journal that fetchlog takes.
 const JOURNAL: usize = 32768;
 
 fn main() {
-    let named = console::is(1, b"--release");
-    let release = if named { console::release(2) } else { 1 };
-    if let Asked::Input(fd) = ask(release, 1 + 2 * one_if(named)) {
-        run(release, fd);
+    if let Asked::Input(fd) = ask() {
+        run(fd);
     }
 }
 
-// The arguments from the first on that is no option.
-fn ask(release: usize, first: usize) -> Asked {
-    console::arguments_in(
+fn ask() -> Asked {
+    console::arguments(
         b"framewriter",
-        release,
-        first,
-        b"usage: framewriter [--release N] [STEPS] > FRAMES\n\
+        1,
+        b"usage: framewriter [STEPS] > FRAMES\n\
         \x20      framewriter --help | --version\n\
         \n\
-        N is the release of the frames: 1, which fetchlog reads, or 2, which fetchlog2\n\
-        reads; without it 1. STEPS is a file of at most 1048576 bytes; '-' or none is\n\
-        standard input. A line is one step, or blank:\n\
+        STEPS is a file of at most 1048576 bytes; '-' or none is standard input.\n\
+        A line is one step, or blank:\n\
         \n\
         \x20 B COMMAND                  begin\n\
         \x20 F COMMAND ADDRESS LENGTH   fetch\n\
@@ -40,8 +35,7 @@ fn ask(release: usize, first: usize) -> Asked {
         \n\
         Numbers are decimal. DATA are hexadecimal digits, two a byte, or '-'.\n\
         '=' and what is expected may follow, which 'explain' checks. '#' starts a\n\
-        comment. Release 2 has no frame for a fetch or a write of no bytes. If a line is\n\
-        bad, every bad line is told and nothing is written.\n\
+        comment. If a line is bad, every bad line is told and nothing is written.\n\
         \n\
         The exit status is always 0. A run that wrote all frames ends, on standard\n\
         error, with a line such as\n\
@@ -54,17 +48,17 @@ fn ask(release: usize, first: usize) -> Asked {
     )
 }
 
-fn run(release: usize, fd: i32) {
+fn run(fd: i32) {
     let mut input = script::room();
     let reading = console::read_whole(b"framewriter", fd, &mut input);
     if reading.whole {
         let n = reading.count;
-        write(release, &input[..n]);
+        write(&input[..n]);
     }
 }
 
-fn write(release: usize, input: &[u8]) {
-    match script::judge(release, b"framewriter", input) {
+fn write(input: &[u8]) {
+    match script::judge(b"framewriter", input) {
         Judgement::TooLong => {
             console::say_text(
                 b"framewriter: the input is above 1048576 bytes, nothing is written\n",
@@ -74,7 +68,7 @@ fn write(release: usize, input: &[u8]) {
             if 0 < judged.bad {
                 say_bad(input, judged.bad);
             } else {
-                let kept = write_frames(release, input);
+                let kept = write_frames(input);
                 sum_up(judged, kept);
             }
         }
@@ -86,7 +80,7 @@ fn say_bad(input: &[u8], bad: usize) {
         b"framewriter",
         input,
         bad,
-        b"framewriter: the input looks like frames; fetchlog or fetchlog2 runs frames\n",
+        b"framewriter: the input looks like frames; fetchlog runs frames\n",
         b", nothing is written\n",
     );
 }
@@ -98,8 +92,8 @@ struct Written {
     lost: bool,
 }
 
-fn write_frame(release: usize, line: &[u8], buffer: &mut [u8], frame: &mut [u8]) -> Written {
-    match steps::frame_of(release, line, buffer, frame) {
+fn write_frame(line: &[u8], buffer: &mut [u8], frame: &mut [u8]) -> Written {
+    match steps::frame_of(line, buffer, frame) {
         Framed::Frame(size) => {
             let kept = console::tell_if(true, b"framewriter", frame, size);
             Written { kept, lost: !kept }
@@ -112,14 +106,14 @@ fn write_frame(release: usize, line: &[u8], buffer: &mut [u8], frame: &mut [u8])
 }
 
 // Writes the frames of the lines, up to the first that cannot be written. Tells how many were.
-fn write_frames(release: usize, input: &[u8]) -> usize {
+fn write_frames(input: &[u8]) -> usize {
     let mut buffer = [0u8; CacheState::TRANSFER];
     let mut frame = [0u8; script::FRAME];
     let mut kept = 0;
     let mut at = 0;
     while at < input.len() {
         let end = scan::until(input, at, Stop::LineEnd);
-        let written = write_frame(release, &input[at..end], &mut buffer, &mut frame);
+        let written = write_frame(&input[at..end], &mut buffer, &mut frame);
         kept += one_if(written.kept);
         if written.lost {
             return kept;
@@ -135,9 +129,7 @@ fn write_frames(release: usize, input: &[u8]) -> usize {
 // The last line on standard error, and before it a word on a journal that is too long.
 fn sum_up(judged: Judged, kept: usize) {
     if JOURNAL < judged.bytes {
-        console::say_text(
-            b"framewriter: more than 32768 bytes, which fetchlog and fetchlog2 refuse\n",
-        );
+        console::say_text(b"framewriter: more than 32768 bytes, which fetchlog refuses\n");
     }
     let frames = judged.frames;
     let mut note = [0u8; console::NOTE];

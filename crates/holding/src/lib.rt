@@ -1,6 +1,7 @@
 // A span of a byte or more comes to be held, for a fetch and for an own write: the records are searched, 23 and 24 are judged, the bytes that
 // were not held before are taken from a source, and the union goes into the command's words. These are lent to be changed only after the
 // verdict.
+#![tactic(auto)]
 ghost use Rattle.std.specs.Prelude.{length};
 ghost use Rattle.holding.specs.Holding.{MayHold, Holds};
 

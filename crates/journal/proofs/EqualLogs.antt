@@ -23,13 +23,15 @@ use Rattle.cache.specs.OwnWrite.{own_window}
 use Rattle.cache.proofs.Accepted.{fetched, host_inside, own_fetched}
 use Rattle.kinds.specs.Table.{kind_of}
 use Rattle.cache.specs.Runs.{Call, fetch, host_write, own_write, Machine, start, says, delivers, along}
+use Rattle.history.specs.Journal.{journal, told}
+use Rattle.history.specs.Firsts.{firsts}
 use Rattle.history.specs.Claims.{blank, common, common_lengths, EqualRuns}
 use Rattle.history.proofs.EqualRuns.{equal_runs_lengths}
 use Rattle.device.specs.Step.{Device, call_of, device_after}
 use Rattle.device.specs.Frame.{step_of}
 use Rattle.journal.specs.Run.{Entry, entries, fresh_device, log_from}
 use Rattle.journal.specs.Readings.{Reading, readings, step_in, is_host_write, but_host_bytes}
-use Rattle.journal.specs.Claims.{calls, of_calls, FirstsAgree, LogEqualRuns}
+use Rattle.journal.specs.Claims.{calls, of_calls, LogEqualRuns}
 use Rattle.journal.proofs.Claims.{journal_is_run}
 use Rattle.journal.proofs.Readings.{call_in, then_in, calls_of, calls_of_read, calls_of_unread, calls_by_readings, entry_in, entries_of, entries_of_read}
 use Rattle.journal.proofs.Readings.{entries_of_unread, entries_by_readings}
@@ -163,57 +165,60 @@ entries_same (e ∷ es) (f ∷ fs) a b c d =
 
 -- The rule
 
-module _ (release release' : ℕ) (store window dest one other : List ℕ) (h : Alike (readings release one) (readings release' other)) where
+module _ (store window dest one other : List ℕ) (h : Alike (readings one) (readings other)) where
   abbrev d : Device
   d = fresh_device store window dest
 
-  runs : EqualRuns store (calls release d one) (calls release' d other)
+  runs : EqualRuns store (calls d one) (calls d other)
   runs =
-      equal_runs_lengths store (calls release d one) (calls release' d other)
-      (ap (map common_lengths) (calls_by_readings release (length one) d one)
-      ∙ calls_alike (readings release one) (readings release' other) d d (record { window = refl; dest = refl }) h
-      ∙ sym (ap (map common_lengths) (calls_by_readings release' (length other) d other)))
+      equal_runs_lengths store (calls d one) (calls d other)
+      (ap (map common_lengths) (calls_by_readings (length one) d one)
+      ∙ calls_alike (readings one) (readings other) d d (record { window = refl; dest = refl }) h
+      ∙ sym (ap (map common_lengths) (calls_by_readings (length other) d other)))
 
   -- what f gives along the calls, so along those of the readings
   module _ {A B : Type 0} (tells : Entry → A) (f : Machine → Call → B) (read : Reply → B → A) (unread : Reply → A)
       (at_read : (d : Device) (r : Reading) → accepted r.says ≡ true → tells (entry_in d r) ≡ read r.says (f d.machine (call_in d r)))
       (at_unread : (d : Device) (r : Reading) → accepted r.says ≡ false → tells (entry_in d r) ≡ unread r.says) where
-    tell_same : along f (start store) (calls release d one) ≡ along f (start store) (calls release' d other) → map tells (entries release d one) ≡ map tells (entries release' d other)
+    tell_same : along f (start store) (calls d one) ≡ along f (start store) (calls d other) → map tells (entries d one) ≡ map tells (entries d other)
     tell_same same =
-        ap (map tells) (entries_by_readings release (length one) d one)
-        ∙ tells_alike tells f read unread at_read at_unread (readings release one) (readings release' other) d d h
-        (sym (ap (along f (start store)) (calls_by_readings release (length one) d one)) ∙ same
-        ∙ ap (along f (start store)) (calls_by_readings release' (length other) d other))
-        ∙ sym (ap (map tells) (entries_by_readings release' (length other) d other))
+        ap (map tells) (entries_by_readings (length one) d one)
+        ∙ tells_alike tells f read unread at_read at_unread (readings one) (readings other) d d h
+        (sym (ap (along f (start store)) (calls_by_readings (length one) d one)) ∙ same
+        ∙ ap (along f (start store)) (calls_by_readings (length other) d other))
+        ∙ sym (ap (map tells) (entries_by_readings (length other) d other))
 
-  same_readable : map (λ e. e.readable) (entries release d one) ≡ map (λ e. e.readable) (entries release' d other)
+  same_readable : map (λ e. e.readable) (entries d one) ≡ map (λ e. e.readable) (entries d other)
   same_readable = tell_same (λ e. e.readable) says (λ r a. true) (λ r. false) (λ d r e. e) (λ d r e. e) runs.answers
 
-  same_letters : map (λ e. e.letter) (entries release d one) ≡ map (λ e. e.letter) (entries release' d other)
+  same_letters : map (λ e. e.letter) (entries d one) ≡ map (λ e. e.letter) (entries d other)
   same_letters =
       tell_same (λ e. e.letter) says (λ r a. (kind_of (get_or (numbers_of r) 1 0)).letter) (λ r. code "?") (λ d r e. rw e) (λ d r e. rw e) runs.answers
 
-  same_answers : map (λ e. e.reply) (entries release d one) ≡ map (λ e. e.reply) (entries release' d other)
+  same_answers : map (λ e. e.reply) (entries d one) ≡ map (λ e. e.reply) (entries d other)
   same_answers = tell_same (λ e. e.reply) says (λ r a. a) (λ r. r) (λ d r e. rw e) (λ d r e. rw e) runs.answers
 
   same_delivered :
-      along delivers (start store) (calls release d one) ≡ along delivers (start store) (calls release' d other)
-      → map (λ e. e.delivered) (entries release d one) ≡ map (λ e. e.delivered) (entries release' d other)
+      along delivers (start store) (calls d one) ≡ along delivers (start store) (calls d other)
+      → map (λ e. e.delivered) (entries d one) ≡ map (λ e. e.delivered) (entries d other)
   same_delivered = tell_same (λ e. e.delivered) delivers (λ r b. b) (λ r. []) (λ d r e. rw e) (λ d r e. rw e)
 
-  same_entries : FirstsAgree release release' store window dest one other → entries release d one ≡ entries release' d other
-  same_entries agree = entries_same (entries release d one) (entries release' d other) same_readable same_letters same_answers (same_delivered (runs.exactly.1 agree).1)
+  abbrev FirstsAgree : Type 0
+  FirstsAgree = told firsts [] (journal store (calls d one)) ≡ told firsts [] (journal store (calls d other))
 
-  agreeing_firsts : entries release d one ≡ entries release' d other → FirstsAgree release release' store window dest one other
+  same_entries : FirstsAgree → entries d one ≡ entries d other
+  same_entries agree = entries_same (entries d one) (entries d other) same_readable same_letters same_answers (same_delivered (runs.exactly.1 agree).1)
+
+  agreeing_firsts : entries d one ≡ entries d other → FirstsAgree
   agreeing_firsts same =
-      let bytes : along delivers (start store) (calls release d one) ≡ along delivers (start store) (calls release' d other)
-      = sym (journal_is_run release d one).delivered ∙ ap (λ (es : List Entry). map (λ e. e.delivered) (of_calls es)) same ∙ (journal_is_run release' d other).delivered in
+      let bytes : along delivers (start store) (calls d one) ≡ along delivers (start store) (calls d other)
+      = sym (journal_is_run d one).delivered ∙ ap (λ (es : List Entry). map (λ e. e.delivered) (of_calls es)) same ∙ (journal_is_run d other).delivered in
       runs.exactly.0 (runs.answers, bytes)
 
 pub log_equal_runs : LogEqualRuns
-log_equal_runs release release' store window dest one other h = record {
-  letters = same_letters release release' store window dest one other h;
-  answers = same_answers release release' store window dest one other h;
-  exactly = (agreeing_firsts release release' store window dest one other h, same_entries release release' store window dest one other h);
-  log = λ agree. ap (log_from 1) (same_entries release release' store window dest one other h agree);
+log_equal_runs store window dest one other h = record {
+  letters = same_letters store window dest one other h;
+  answers = same_answers store window dest one other h;
+  exactly = (agreeing_firsts store window dest one other h, same_entries store window dest one other h);
+  log = λ agree. ap (log_from 1) (same_entries store window dest one other h agree);
 }

@@ -5,7 +5,7 @@ use mathlib.Core.Path.{◌≡◌, refl, sym, ◌∙◌}
 use mathlib.Core.List.{List, [], ◌∷◌}
 use mathlib.Core.Bool.{Bool, true, false, false≢true, cond}
 use lib.Dec.{ltb}
-use lib.ListN.{length, get_or, take, length-take}
+use lib.ListN.{length, take, length-take}
 use borrow.Author.Tests.{ltb-true, ltb-false}
 use Rattle.octets.specs.Lists.{all}
 use Rattle.octets.proofs.Lists.{and_left, and_right}
@@ -16,9 +16,7 @@ use Rattle.state.proofs.Commands.{kept}
 use Rattle.state.proofs.Places.{counts_fill}
 use Rattle.frames.specs.declared.Step.{Step}
 use Rattle.frames.specs.declared.Step.TheVariants.{Begin, Fetch, End, HostWrite, OwnWrite}
-use Rattle.frames.specs.Layout.{fields_of}
-use Rattle.frames.specs.Checks.{unknown_release}
-use Rattle.frames.specs.Read.{read_checks, fields_say, read_says, data_of}
+use Rattle.frames.specs.Read.{fields_say, read_says, data_of}
 use Rattle.cache.specs.Begin.{begin_says}
 use Rattle.cache.specs.Fetch.{fetch_says}
 use Rattle.cache.specs.End.{end_says}
@@ -86,33 +84,28 @@ delivers_size m p = go (accepted (says m p)) refl
     go true e = omega (arith, wanted_size m p e, length-take (wanted p) (dest_after m p))
     go false e = omega arith
 
-module _ (release : ℕ) where
-  -- what the reader says of a frame that it refuses
-  unread_short : (frame : List ℕ) → is_readable release frame ≡ false → Short (without_looked (read_says release frame))
-  unfolding read_says fields_say verdict all
-  unread_short frame e =
-      let f = fields_of release frame in
-      verdict_short (unknown_release release ∷ read_checks (length frame) (get_or f 0 0) (get_or f 1 0) (get_or f 2 0) (get_or f 3 0) (get_or f 4 0)) _ refl
-      (λ a. absurd (false≢true (sym e ∙ a)))
+-- what the reader says of a frame that it refuses
+unread_short : (frame : List ℕ) → is_readable frame ≡ false → Short (without_looked (read_says frame))
+unfolding read_says fields_say all
+unread_short frame e = verdict_short _ _ refl (λ a. absurd (false≢true (sym e ∙ a)))
 
-  module _ (d : Device) (frame : List ℕ) where
-    frame_short : Short (without_looked (frame_says release d frame))
-    unfolding frame_says
-    frame_short = go (is_readable release frame) refl
-      where
-        go : (b : Bool) → is_readable release frame ≡ b → Short (without_looked (cond b (says d.machine (frame_call release d frame)) (read_says release frame)))
-        go true e = says_short d.machine (step_read release frame) (data_of frame (taken_up release frame)) d.dest d.window
-        go false e = unread_short frame e
+module _ (d : Device) (frame : List ℕ) where
+  frame_short : Short (without_looked (frame_says d frame))
+  unfolding frame_says
+  frame_short = go (is_readable frame) refl
+    where
+      go : (b : Bool) → is_readable frame ≡ b → Short (without_looked (cond b (says d.machine (frame_call d frame)) (read_says frame)))
+      go true e = says_short d.machine (step_read frame) (data_of frame (taken_up frame)) d.dest d.window
+      go false e = unread_short frame e
 
-    frame_size_lem : length (frame_delivers release d frame) ≤ 4096
-    unfolding frame_delivers
-    frame_size_lem = go (is_readable release frame)
-      where
-        go : (b : Bool) → length (cond b (delivers d.machine (frame_call release d frame)) []) ≤ 4096
-        go true = delivers_size d.machine (frame_call release d frame)
-        go false = omega arith
+  frame_size_lem : length (frame_delivers d frame) ≤ 4096
+  unfolding frame_delivers
+  frame_size_lem = go (is_readable frame)
+    where
+      go : (b : Bool) → length (cond b (delivers d.machine (frame_call d frame)) []) ≤ 4096
+      go true = delivers_size d.machine (frame_call d frame)
+      go false = omega arith
 
 pub line_fits : LineFits
-line_fits release d frame number below =
-    line_short (letter_of release frame) (frame_delivers release d frame) (frame_size_lem release d frame) number (frame_says release d frame) below
-    (frame_short release d frame)
+line_fits d frame number below =
+    line_short (letter_of frame) (frame_delivers d frame) (frame_size_lem d frame) number (frame_says d frame) below (frame_short d frame)

@@ -16,7 +16,7 @@ use Rattle.device.specs.Frame.{is_readable, taken_up, frame_call, frame_says, fr
 use Rattle.journal.specs.Run.{Entry, entry_of, entries_in, left_in}
 use Rattle.journal.specs.Writes.{Request, call_on, made, left}
 use Rattle.journal.specs.Readings.{Reading, reading_of, readings_in, step_in, request_of, requests_of}
-use Rattle.journal.specs.Claims.{calls_in, JournalIsMade, ReleasesAlike}
+use Rattle.journal.specs.Claims.{calls_in, JournalIsMade}
 use Rattle.journal.proofs.Running.{entries_read, entries_unread, left_read, left_unread}
 use Rattle.journal.proofs.Claims.{calls_read, calls_unread}
 
@@ -42,44 +42,43 @@ pub calls_of_unread : (d : Device) (r : Reading) (rs : List Reading) → accepte
 unfolding calls_of
 calls_of_unread d r rs e = rw (calls_of, e)
 
-module _ (release : ℕ) where
-  module _ (k : ℕ) (x : ℕ) (xs : List ℕ) where
-    abbrev frame : List ℕ
-    frame = x ∷ xs
+module _ (k : ℕ) (x : ℕ) (xs : List ℕ) where
+  abbrev frame : List ℕ
+  frame = x ∷ xs
 
-    abbrev rest : List ℕ
-    rest = drop (taken_up release frame) frame
+  abbrev rest : List ℕ
+  rest = drop (taken_up frame) frame
 
-    readings_read : is_readable release frame ≡ true → readings_in release (suc k) frame ≡ reading_of release frame ∷ readings_in release k rest
-    unfolding readings_in
-    readings_read e = rw (readings_in, e)
+  readings_read : is_readable frame ≡ true → readings_in (suc k) frame ≡ reading_of frame ∷ readings_in k rest
+  unfolding readings_in
+  readings_read e = rw (readings_in, e)
 
-    readings_unread : is_readable release frame ≡ false → readings_in release (suc k) frame ≡ reading_of release frame ∷ []
-    unfolding readings_in
-    readings_unread e = rw (readings_in, e)
+  readings_unread : is_readable frame ≡ false → readings_in (suc k) frame ≡ reading_of frame ∷ []
+  unfolding readings_in
+  readings_unread e = rw (readings_in, e)
 
-  leaves_read : (d : Device) (frame : List ℕ) → is_readable release frame ≡ true → frame_leaves release d frame ≡ then_in d (reading_of release frame)
-  unfolding frame_leaves
-  leaves_read d frame e = rw e
+leaves_read : (d : Device) (frame : List ℕ) → is_readable frame ≡ true → frame_leaves d frame ≡ then_in d (reading_of frame)
+unfolding frame_leaves
+leaves_read d frame e = rw e
 
-  pub calls_by_readings : (k : ℕ) (d : Device) (input : List ℕ) → calls_in release k d input ≡ calls_of d (readings_in release k input)
-  unfolding calls_in calls_of readings_in
-  calls_by_readings zero d input = refl
-  calls_by_readings (suc k) d [] = refl
-  calls_by_readings (suc k) d (x ∷ xs) = go (is_readable release (x ∷ xs)) refl (calls_by_readings k (frame_leaves release d (x ∷ xs)) (drop (taken_up release (x ∷ xs)) (x ∷ xs)))
-    where
-      then : Device
-      then = frame_leaves release d (x ∷ xs)
+pub calls_by_readings : (k : ℕ) (d : Device) (input : List ℕ) → calls_in k d input ≡ calls_of d (readings_in k input)
+unfolding calls_in calls_of readings_in
+calls_by_readings zero d input = refl
+calls_by_readings (suc k) d [] = refl
+calls_by_readings (suc k) d (x ∷ xs) = go (is_readable (x ∷ xs)) refl (calls_by_readings k (frame_leaves d (x ∷ xs)) (drop (taken_up (x ∷ xs)) (x ∷ xs)))
+  where
+    then : Device
+    then = frame_leaves d (x ∷ xs)
 
-      go : (b : Bool) → is_readable release (x ∷ xs) ≡ b → calls_in release k then (rest k x xs) ≡ calls_of then (readings_in release k (rest k x xs))
-          → calls_in release (suc k) d (x ∷ xs) ≡ calls_of d (readings_in release (suc k) (x ∷ xs))
-      go true e others =
-          calls_read release k d x xs e
-          ∙ ap (λ (cs : List Call). frame_call release d (x ∷ xs) ∷ cs)
-          (others ∙ ap (λ (l : Device). calls_of l (readings_in release k (rest k x xs))) (leaves_read d (x ∷ xs) e))
-          ∙ sym (calls_of_read d (reading_of release (x ∷ xs)) (readings_in release k (rest k x xs)) e) ∙ sym (ap (calls_of d) (readings_read k x xs e))
-      go false e others =
-          calls_unread release k d x xs e ∙ sym (calls_of_unread d (reading_of release (x ∷ xs)) [] e) ∙ sym (ap (calls_of d) (readings_unread k x xs e))
+    go : (b : Bool) → is_readable (x ∷ xs) ≡ b → calls_in k then (rest k x xs) ≡ calls_of then (readings_in k (rest k x xs))
+        → calls_in (suc k) d (x ∷ xs) ≡ calls_of d (readings_in (suc k) (x ∷ xs))
+    go true e others =
+        calls_read k d x xs e
+        ∙ ap (λ (cs : List Call). frame_call d (x ∷ xs) ∷ cs)
+        (others ∙ ap (λ (l : Device). calls_of l (readings_in k (rest k x xs))) (leaves_read d (x ∷ xs) e))
+        ∙ sym (calls_of_read d (reading_of (x ∷ xs)) (readings_in k (rest k x xs)) e) ∙ sym (ap (calls_of d) (readings_read k x xs e))
+    go false e others =
+        calls_unread k d x xs e ∙ sym (calls_of_unread d (reading_of (x ∷ xs)) [] e) ∙ sym (ap (calls_of d) (readings_unread k x xs e))
 
 -- The requests
 
@@ -110,34 +109,33 @@ calls_made d (r ∷ rs) = go (accepted r.says) refl (calls_made (then_in d r) rs
         rw (calls_of, requests_of, e) (ap₂ ◌∷◌ is (rest ∙ ap (λ (p : Call). made (device_after d p) (requests_of rs)) is))
     go false e rest = rw (calls_of, requests_of, e)
 
-module _ (release : ℕ) where
-  left_by_readings : (k : ℕ) (d : Device) (input : List ℕ) → left_in release k d input ≡ left d (requests_of (readings_in release k input))
-  unfolding left_in readings_in requests_of left
-  left_by_readings zero d input = refl
-  left_by_readings (suc k) d [] = refl
-  left_by_readings (suc k) d (x ∷ xs) = go (is_readable release (x ∷ xs)) refl (left_by_readings k (frame_leaves release d (x ∷ xs)) (drop (taken_up release (x ∷ xs)) (x ∷ xs)))
-    where
-      then : Device
-      then = frame_leaves release d (x ∷ xs)
+left_by_readings : (k : ℕ) (d : Device) (input : List ℕ) → left_in k d input ≡ left d (requests_of (readings_in k input))
+unfolding left_in readings_in requests_of left
+left_by_readings zero d input = refl
+left_by_readings (suc k) d [] = refl
+left_by_readings (suc k) d (x ∷ xs) = go (is_readable (x ∷ xs)) refl (left_by_readings k (frame_leaves d (x ∷ xs)) (drop (taken_up (x ∷ xs)) (x ∷ xs)))
+  where
+    then : Device
+    then = frame_leaves d (x ∷ xs)
 
-      others : List Request
-      others = requests_of (readings_in release k (rest release k x xs))
+    others : List Request
+    others = requests_of (readings_in k (rest k x xs))
 
-      go : (b : Bool) → is_readable release (x ∷ xs) ≡ b → left_in release k then (rest release k x xs) ≡ left then others
-          → left_in release (suc k) d (x ∷ xs) ≡ left d (requests_of (readings_in release (suc k) (x ∷ xs)))
-      go true e h =
-          let r = reading_of release (x ∷ xs) in
-          left_read release k d (x ∷ xs) (omega arith) e ∙ h ∙ ap (λ (l : Device). left l others) (leaves_read release d (x ∷ xs) e)
-          ∙ ap (λ (p : Call). left (device_after d p) others) (made_on d (step_in r) r.bytes)
-          ∙ ap (left d) (sym (requests_of_read r (readings_in release k (rest release k x xs)) e) ∙ sym (ap requests_of (readings_read release k x xs e)))
-      go false e h =
-          left_unread release k d (x ∷ xs) (omega arith) e
-          ∙ ap (left d) (sym (requests_of_unread (reading_of release (x ∷ xs)) [] e) ∙ sym (ap requests_of (readings_unread release k x xs e)))
+    go : (b : Bool) → is_readable (x ∷ xs) ≡ b → left_in k then (rest k x xs) ≡ left then others
+        → left_in (suc k) d (x ∷ xs) ≡ left d (requests_of (readings_in (suc k) (x ∷ xs)))
+    go true e h =
+        let r = reading_of (x ∷ xs) in
+        left_read k d (x ∷ xs) (omega arith) e ∙ h ∙ ap (λ (l : Device). left l others) (leaves_read d (x ∷ xs) e)
+        ∙ ap (λ (p : Call). left (device_after d p) others) (made_on d (step_in r) r.bytes)
+        ∙ ap (left d) (sym (requests_of_read r (readings_in k (rest k x xs)) e) ∙ sym (ap requests_of (readings_read k x xs e)))
+    go false e h =
+        left_unread k d (x ∷ xs) (omega arith) e
+        ∙ ap (left d) (sym (requests_of_unread (reading_of (x ∷ xs)) [] e) ∙ sym (ap requests_of (readings_unread k x xs e)))
 
 pub journal_is_made : JournalIsMade
-journal_is_made release d input = record {
-  makes = calls_by_readings release (length input) d input ∙ calls_made d (readings_in release (length input) input);
-  leaves = left_by_readings release (length input) d input;
+journal_is_made d input = record {
+  makes = calls_by_readings (length input) d input ∙ calls_made d (readings_in (length input) input);
+  leaves = left_by_readings (length input) d input;
 }
 
 -- The entries
@@ -164,36 +162,25 @@ pub entries_of_unread : (d : Device) (r : Reading) (rs : List Reading) → accep
 unfolding entries_of
 entries_of_unread d r rs e = rw (entries_of, e)
 
-module _ (release : ℕ) where
-  entry_in_lem : (d : Device) (frame : List ℕ) → entry_of release d frame ≡ entry_in d (reading_of release frame)
-  unfolding frame_says frame_delivers
-  entry_in_lem d frame = refl
+entry_in_lem : (d : Device) (frame : List ℕ) → entry_of d frame ≡ entry_in d (reading_of frame)
+unfolding frame_says frame_delivers
+entry_in_lem d frame = refl
 
-  pub entries_by_readings : (k : ℕ) (d : Device) (input : List ℕ) → entries_in release k d input ≡ entries_of d (readings_in release k input)
-  unfolding entries_in entries_of readings_in
-  entries_by_readings zero d input = refl
-  entries_by_readings (suc k) d [] = refl
-  entries_by_readings (suc k) d (x ∷ xs) = go (is_readable release (x ∷ xs)) refl (entries_by_readings k (frame_leaves release d (x ∷ xs)) (drop (taken_up release (x ∷ xs)) (x ∷ xs)))
-    where
-      then : Device
-      then = frame_leaves release d (x ∷ xs)
+pub entries_by_readings : (k : ℕ) (d : Device) (input : List ℕ) → entries_in k d input ≡ entries_of d (readings_in k input)
+unfolding entries_in entries_of readings_in
+entries_by_readings zero d input = refl
+entries_by_readings (suc k) d [] = refl
+entries_by_readings (suc k) d (x ∷ xs) = go (is_readable (x ∷ xs)) refl (entries_by_readings k (frame_leaves d (x ∷ xs)) (drop (taken_up (x ∷ xs)) (x ∷ xs)))
+  where
+    then : Device
+    then = frame_leaves d (x ∷ xs)
 
-      go : (b : Bool) → is_readable release (x ∷ xs) ≡ b → entries_in release k then (rest release k x xs) ≡ entries_of then (readings_in release k (rest release k x xs))
-          → entries_in release (suc k) d (x ∷ xs) ≡ entries_of d (readings_in release (suc k) (x ∷ xs))
-      go true e others =
-          entries_read release k d (x ∷ xs) (omega arith) e
-          ∙ ap₂ ◌∷◌ (entry_in_lem d (x ∷ xs)) (others ∙ ap (λ (l : Device). entries_of l (readings_in release k (rest release k x xs))) (leaves_read release d (x ∷ xs) e))
-          ∙ sym (entries_of_read d (reading_of release (x ∷ xs)) (readings_in release k (rest release k x xs)) e) ∙ sym (ap (entries_of d) (readings_read release k x xs e))
-      go false e others =
-          entries_unread release k d (x ∷ xs) (omega arith) e ∙ ap (λ (t : Entry). t ∷ []) (entry_in_lem d (x ∷ xs))
-          ∙ sym (entries_of_unread d (reading_of release (x ∷ xs)) [] e) ∙ sym (ap (entries_of d) (readings_unread release k x xs e))
-
--- So journals that are read alike, in one release or in two, are run alike.
-pub releases_alike : ReleasesAlike
-releases_alike release release' d one other same = record {
-  lines =
-      entries_by_readings release (length one) d one ∙ ap (entries_of d) same ∙ sym (entries_by_readings release' (length other) d other);
-  leaves =
-      left_by_readings release (length one) d one ∙ ap (λ (rs : List Reading). left d (requests_of rs)) same
-      ∙ sym (left_by_readings release' (length other) d other);
-}
+    go : (b : Bool) → is_readable (x ∷ xs) ≡ b → entries_in k then (rest k x xs) ≡ entries_of then (readings_in k (rest k x xs))
+        → entries_in (suc k) d (x ∷ xs) ≡ entries_of d (readings_in (suc k) (x ∷ xs))
+    go true e others =
+        entries_read k d (x ∷ xs) (omega arith) e
+        ∙ ap₂ ◌∷◌ (entry_in_lem d (x ∷ xs)) (others ∙ ap (λ (l : Device). entries_of l (readings_in k (rest k x xs))) (leaves_read d (x ∷ xs) e))
+        ∙ sym (entries_of_read d (reading_of (x ∷ xs)) (readings_in k (rest k x xs)) e) ∙ sym (ap (entries_of d) (readings_read k x xs e))
+    go false e others =
+        entries_unread k d (x ∷ xs) (omega arith) e ∙ ap (λ (t : Entry). t ∷ []) (entry_in_lem d (x ∷ xs))
+        ∙ sym (entries_of_unread d (reading_of (x ∷ xs)) [] e) ∙ sym (ap (entries_of d) (readings_unread k x xs e))

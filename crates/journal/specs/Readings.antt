@@ -1,4 +1,4 @@
--- What is read of a journal of a release, frame by frame, before any of it is carried out; and the requests that it makes.
+-- What is read of a journal, frame by frame, before any of it is carried out; and the requests that it makes.
 use Rattle.std.specs.Prelude.{ℕ, zero, suc, List, [], ◌∷◌, Bool, true, false, cond, length, drop}
 use Rattle.state.specs.Verdict.{Reply, accepted, numbers_of}
 use Rattle.frames.specs.declared.Step.{Step}
@@ -13,20 +13,18 @@ pub record Reading : Type 0 where
   pub says : Reply
   pub bytes : List ℕ
 
-abbrev pub reading_of : (release : ℕ) (frame : List ℕ) → Reading
-reading_of release frame = record { says = read_says release frame; bytes = data_of frame (taken_up release frame) }
+abbrev pub reading_of : (frame : List ℕ) → Reading
+reading_of frame = record { says = read_says frame; bytes = data_of frame (taken_up frame) }
 
 -- the readings of a journal, of which an unreadable one is the last; the steps only bound the recursion
-module _ (release : ℕ) where
-  unfoldable pub readings_in : (steps : ℕ) → (input : List ℕ) → List Reading
-  readings_in zero input = []
-  readings_in (suc steps) [] = []
-  readings_in (suc steps) (x ∷ xs) =
-      let frame = x ∷ xs in
-      reading_of release frame ∷ elim (is_readable release frame) [ true ↦ readings_in steps (drop (taken_up release frame) frame) | false ↦ [] ]
+unfoldable pub readings_in : (steps : ℕ) → (input : List ℕ) → List Reading
+readings_in zero input = []
+readings_in (suc steps) [] = []
+readings_in (suc steps) (x ∷ xs) =
+    reading_of (x ∷ xs) ∷ elim (is_readable (x ∷ xs)) [ true ↦ readings_in steps (drop (taken_up (x ∷ xs)) (x ∷ xs)) | false ↦ [] ]
 
-  abbrev pub readings : (input : List ℕ) → List Reading
-  readings input = readings_in (length input) input
+abbrev pub readings : (input : List ℕ) → List Reading
+readings input = readings_in (length input) input
 
 abbrev pub step_in : Reading → Step
 step_in r = step_of (drop 1 (numbers_of r.says))
@@ -54,5 +52,5 @@ unfoldable pub requests_of : List Reading → List Request
 requests_of [] = []
 requests_of (r ∷ rs) = elim (accepted r.says) [ true ↦ request_of (step_in r) r.bytes ∷ requests_of rs | false ↦ [] ]
 
-abbrev pub requests : (release : ℕ) (input : List ℕ) → List Request
-requests release input = requests_of (readings release input)
+abbrev pub requests : (input : List ℕ) → List Request
+requests input = requests_of (readings input)

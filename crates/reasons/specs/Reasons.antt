@@ -6,7 +6,7 @@ use Rattle.state.specs.declared.refusal.Refusal.{Refusal}
 use Rattle.state.specs.declared.refusal.Refusal.TheVariants.{FrameTooShort, UnknownKind, FieldNotZero, LengthTooLong, DataMismatch, CommandTooHigh}
 use Rattle.state.specs.declared.refusal.Refusal.TheVariants.{WindowTooLong, StoreWrongSize, OutsideWindow, BufferTooShort, AddressTooHigh, StateBroken}
 use Rattle.state.specs.declared.refusal.Refusal.TheVariants.{CommandNotOpen, CommandAlreadyOpen, TooManyBytes, TooManyRecords, NoSuchRecord, WindowBeyondMap}
-use Rattle.state.specs.declared.refusal.Refusal.TheVariants.{TransferOutOfRange, EntryMisaligned, UnknownRelease, LengthZero}
+use Rattle.state.specs.declared.refusal.Refusal.TheVariants.{TransferOutOfRange, EntryMisaligned}
 
 -- the reason as a program tells it; 01 and 02 have the numbers alone
 abbrev pub reason : Refusal → String
@@ -30,8 +30,6 @@ reason NoSuchRecord = "the command has no record of this number"
 reason WindowBeyondMap = "the window is longer than 4096 bytes"
 reason TransferOutOfRange = "the transfer is not 1 to 65536 bytes"
 reason EntryMisaligned = "a page entry is not the multiple it must be"
-reason UnknownRelease = "the release is neither 1 nor 2"
-reason LengthZero = "release 2 has no fetch or write of 0 bytes"
 
 -- with blanks behind it, up to 43 characters
 abbrev pub padded : String → List ℕ

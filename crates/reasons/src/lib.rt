@@ -1,4 +1,5 @@
 // The reason of a refusal in words, as the programs tell it; the numbers stand in `state`.
+#![tactic(auto)]
 mod putting;
 mod reason;
 

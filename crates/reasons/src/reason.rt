@@ -29,7 +29,5 @@ pub(crate) fn reason(refusal: Refusal) -> [u8; 43]
         Refusal::WindowBeyondMap => *b"the window is longer than 4096 bytes       ",
         Refusal::TransferOutOfRange => *b"the transfer is not 1 to 65536 bytes       ",
         Refusal::EntryMisaligned => *b"a page entry is not the multiple it must be",
-        Refusal::UnknownRelease => *b"the release is neither 1 nor 2             ",
-        Refusal::LengthZero => *b"release 2 has no fetch or write of 0 bytes ",
     }
 }

@@ -1,4 +1,5 @@
-// A whole journal of a release is run, and its log is made, as `journal` defines it.
+// A whole journal is run, and its log is made, as `journal` defines it.
+#![tactic(auto)]
 ghost use Rattle.device.specs.Step.{device_of};
 ghost use Rattle.journal.specs.Run.{Replays};
 
@@ -8,7 +9,6 @@ use numbers::one_if;
 use state::CacheState;
 
 pub fn replay(
-    release: usize,
     input: &[u8],
     state: &mut [u16; CacheState::WORDS],
     store: &mut [u8],
@@ -16,7 +16,7 @@ pub fn replay(
     destination: &mut [u8],
     output: &mut [u8],
 ) -> Replayed
-    ensures { Replays release (device_of state.old store.old window.old destination.old) input.now output.old result state.new store.new window.new destination.new output.new }
+    ensures { Replays (device_of state.old store.old window.old destination.old) input.now output.old result state.new store.new window.new destination.new output.new }
 {
     let mut at = 0;
     let mut number = 0;
@@ -24,7 +24,6 @@ pub fn replay(
     let mut carried = 0;
     while at < input.len() {
         let r = log_frame(
-            release,
             number + 1,
             &input[at..],
             state,

@@ -1,4 +1,5 @@
 // What is said on standard error of lines that have no frame.
+#![tactic(auto)]
 use fields::Fault;
 use octets::put;
 use reason::{put_fault, put_refusal};

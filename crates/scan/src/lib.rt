@@ -1,4 +1,5 @@
 // Text that is read: places with a byte of a class, words, and the numbers and bytes that words stand for.
+#![tactic(auto)]
 mod classes;
 mod places;
 mod values;

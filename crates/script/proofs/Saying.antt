@@ -19,19 +19,19 @@ use Rattle.script.specs.Judging.{line_says, counts, frame_limit}
 data_length : (buffer : List ℕ) (step : Step) → length (data_in buffer step) ≡ min step.given (length buffer)
 data_length buffer step = omega (arith, length-take (min step.given (length buffer)) buffer)
 
-pub same_room : (release : ℕ) (meaning : Meaning) (buffer output buffer' output' : List ℕ) → length buffer ≡ length buffer' → length output ≡ length output'
-    → meaning_says release meaning buffer output ≡ meaning_says release meaning buffer' output'
+pub same_room : (meaning : Meaning) (buffer output buffer' output' : List ℕ) → length buffer ≡ length buffer' → length output ≡ length output'
+    → meaning_says meaning buffer output ≡ meaning_says meaning buffer' output'
 unfolding meaning_says
-same_room release Nothing buffer output buffer' output' b o = refl
-same_room release (Bad fault) buffer output buffer' output' b o = refl
-same_room release (StepMeant step) buffer output buffer' output' b o = rw (data_length buffer step, data_length buffer' step, b, o)
+same_room Nothing buffer output buffer' output' b o = refl
+same_room (Bad fault) buffer output buffer' output' b o = refl
+same_room (StepMeant step) buffer output buffer' output' b o = rw (data_length buffer step, data_length buffer' step, b, o)
 
 -- so it is what is said of the line in buffers of these lengths
-pub said : (release : ℕ) (line buffer output : List ℕ) → length buffer ≡ 4096 → length output ≡ 4101
-    → meaning_says release (line_means line) buffer output ≡ line_says release line
+pub said : (line buffer output : List ℕ) → length buffer ≡ 4096 → length output ≡ 4101
+    → meaning_says (line_means line) buffer output ≡ line_says line
 unfolding line_says
-said release line buffer output b o =
-    same_room release (line_means line) buffer output (replicate 4096 0) (replicate 4101 0)
+said line buffer output b o =
+    same_room (line_means line) buffer output (replicate 4096 0) (replicate 4101 0)
     (b ∙ sym (length-replicate {A = ℕ} 4096 0))
     (o ∙ sym (length-replicate {A = ℕ} 4101 0))
 
@@ -41,23 +41,23 @@ pub record Small (room : ℕ) (j : Judged) : Type 0 where
   pub frames : j.frames ≤ 1
   pub bytes : j.bytes ≤ room
 
-reply_small : (release kind command address size given room : ℕ) (reply : Reply) → write_says release kind command address size given room ≡ reply
+reply_small : (kind command address size given room : ℕ) (reply : Reply) → write_says kind command address size given room ≡ reply
     → Small room (counts (answered reply))
 unfolding accepted
-reply_small release kind command address size given room (refused n) e = record { bad = omega arith; frames = omega arith; bytes = omega arith }
-reply_small release kind command address size given room (replied numbers) e =
-    let w = writable release kind command address size given room (ap accepted e) in
-    let same : replied numbers ≡ replied (frame_size kind size ∷ []) = sym e ∙ writes release kind command address size given room w in
+reply_small kind command address size given room (refused n) e = record { bad = omega arith; frames = omega arith; bytes = omega arith }
+reply_small kind command address size given room (replied numbers) e =
+    let w = writable kind command address size given room (ap accepted e) in
+    let same : replied numbers ≡ replied (frame_size kind size ∷ []) = sym e ∙ writes kind command address size given room w in
     let one : numbers ≡ frame_size kind size ∷ [] = cc in
     let count : get_or numbers 0 0 ≡ frame_size kind size = rw one in
     record { bad = omega arith; frames = omega arith; bytes = omega (arith, w.fits) }
 
-says_small : (release : ℕ) (meaning : Meaning) (buffer output : List ℕ) → Small (length output) (counts (meaning_says release meaning buffer output))
+says_small : (meaning : Meaning) (buffer output : List ℕ) → Small (length output) (counts (meaning_says meaning buffer output))
 unfolding meaning_says
-says_small release Nothing buffer output = record { bad = omega arith; frames = omega arith; bytes = omega arith }
-says_small release (Bad fault) buffer output = record { bad = omega arith; frames = omega arith; bytes = omega arith }
-says_small release (StepMeant s) buffer output = reply_small release s.kind s.command s.address s.size (length (data_in buffer s)) (length output) _ refl
+says_small Nothing buffer output = record { bad = omega arith; frames = omega arith; bytes = omega arith }
+says_small (Bad fault) buffer output = record { bad = omega arith; frames = omega arith; bytes = omega arith }
+says_small (StepMeant s) buffer output = reply_small s.kind s.command s.address s.size (length (data_in buffer s)) (length output) _ refl
 
-pub line_small : (release : ℕ) (line : List ℕ) → Small 4101 (counts (line_says release line))
+pub line_small : (line : List ℕ) → Small 4101 (counts (line_says line))
 unfolding line_says
-line_small release line = rw (length-replicate {A = ℕ} 4101 0) at (says_small release (line_means line) (replicate 4096 0) (replicate 4101 0))
+line_small line = rw (length-replicate {A = ℕ} 4101 0) at (says_small (line_means line) (replicate 4096 0) (replicate 4101 0))

@@ -4,7 +4,6 @@ use mathlib.Core.List.{[], ◌∷◌}
 use Rattle.octets.specs.Text.{ascii}
 use Rattle.text.specs.Decimal.{read_on}
 use Rattle.state.specs.Verdict.{verdict}
-use Rattle.frames.specs.Layout.{is_release, least_length}
 use Rattle.frames.specs.Kinds.{data_size}
 use Rattle.frames.specs.Checks.{not_zero, zero_broken}
 use Rattle.frames.specs.Write.{write_says}
@@ -28,7 +27,7 @@ three_lines : lines (ascii "a\n\nbc") ≡ ascii "a" ∷ [] ∷ ascii "bc" ∷ []
 unfolding lines in_front
 three_lines = refl
 
-counted : judged_of 1 (ascii "B 1\n\nX\nB 8\nH 5 00") ≡ judged 2 2 11
-unfolding lines in_front sum line_says meaning_says write_says verdict is_release least_length data_size not_zero zero_broken before front hex_value read_on number_of number_field
+counted : judged_of (ascii "B 1\n\nX\nB 8\nH 5 00") ≡ judged 2 2 11
+unfolding lines in_front sum line_says meaning_says write_says verdict data_size not_zero zero_broken before front hex_value read_on number_of number_field
     data_fault data_field end_fault kind_for kind_named has_size size_of first_fault judgedFault fields_mean step_means text_means is_marked line_means
 counted = refl

@@ -1,4 +1,4 @@
--- The lines of a file, and what is counted of them, in a release.
+-- The lines of a file, and what is counted of them.
 use Rattle.std.specs.Prelude.{ℕ, ◌+◌, List, [], ◌∷◌, cond, ltb, eqb, length, get_or, replicate}
 use Rattle.state.specs.Limits.{transfer_limit}
 use Rattle.state.specs.Verdict.{refused, replied}
@@ -24,8 +24,8 @@ abbrev pub frame_limit : ℕ
 frame_limit = head_size + transfer_limit
 
 -- what is said of a line where there is room for the longest data and the longest frame
-unfoldable pub line_says : (release : ℕ) → List ℕ → Said
-line_says release line = meaning_says release (line_means line) (replicate transfer_limit 0) (replicate frame_limit 0)
+unfoldable pub line_says : List ℕ → Said
+line_says line = meaning_says (line_means line) (replicate transfer_limit 0) (replicate frame_limit 0)
 
 abbrev pub judged : (bad frames bytes : ℕ) → Judged
 judged bad frames bytes = record { bad = bad; frames = frames; bytes = bytes }
@@ -42,17 +42,17 @@ abbrev pub plus : Judged → Judged → Judged
 plus one other = judged (one.bad + other.bad) (one.frames + other.frames) (one.bytes + other.bytes)
 
 -- what all lines count for
-unfoldable pub sum : (release : ℕ) → List (List ℕ) → Judged
-sum release [] = judged 0 0 0
-sum release (line ∷ rest) = plus (counts (line_says release line)) (sum release rest)
+unfoldable pub sum : List (List ℕ) → Judged
+sum [] = judged 0 0 0
+sum (line ∷ rest) = plus (counts (line_says line)) (sum rest)
 
-abbrev pub judged_of : (release : ℕ) → List ℕ → Judged
-judged_of release input = sum release (lines input)
+abbrev pub judged_of : List ℕ → Judged
+judged_of input = sum (lines input)
 
 -- the most bytes of a file of steps
 abbrev pub most : ℕ
 most = 1048576
 
 -- a file that is too long is not looked at
-unfoldable pub judgement : (release : ℕ) → List ℕ → Judgement
-judgement release input = cond (ltb most (length input)) TooLong (Lines (judged_of release input))
+unfoldable pub judgement : List ℕ → Judgement
+judgement input = cond (ltb most (length input)) TooLong (Lines (judged_of input))

@@ -1,4 +1,4 @@
-// The lines of a file, judged one after the other, in a release.
+// The lines of a file, judged one after the other.
 ghost use Rattle.std.specs.Prelude.{◌≡◌, ◌≤◌, length, replicate};
 ghost use Rattle.steps.specs.Frame.{framed_says};
 ghost use Rattle.script.specs.Judging.{line_says, judged, counts, judged_of, judgement};
@@ -57,7 +57,6 @@ fn counts(framed: Framed) -> Judged
 }
 
 fn judge_line(
-    release: usize,
     program: &[u8],
     number: usize,
     line: &[u8],
@@ -65,16 +64,16 @@ fn judge_line(
     frame: &mut [u8],
 ) -> Judged
     requires { (length buffer.old ≡ 4096) × (length frame.old ≡ 4101) }
-    ensures { result ≡ counts (line_says release line.now) }
+    ensures { result ≡ counts (line_says line.now) }
 {
-    let framed = steps::frame_of(release, line, buffer, frame);
+    let framed = steps::frame_of(line, buffer, frame);
     report(program, number, line, framed);
     counts(framed)
 }
 
-fn judge_lines(release: usize, program: &[u8], input: &[u8]) -> Judged
+fn judge_lines(program: &[u8], input: &[u8]) -> Judged
     requires { length input.now ≤ 1048576 }
-    ensures { result ≡ judged_of release input.now }
+    ensures { result ≡ judged_of input.now }
 {
     let mut buffer = [0u8; CacheState::TRANSFER];
     let mut frame = [0u8; FRAME];
@@ -86,14 +85,7 @@ fn judge_lines(release: usize, program: &[u8], input: &[u8]) -> Judged
     while at < input.len() {
         let end = scan::until(input, at, Stop::LineEnd);
         number += 1;
-        let line = judge_line(
-            release,
-            program,
-            number,
-            &input[at..end],
-            &mut buffer,
-            &mut frame,
-        );
+        let line = judge_line(program, number, &input[at..end], &mut buffer, &mut frame);
         bad += line.bad;
         frames += line.frames;
         bytes += line.bytes;
@@ -103,11 +95,11 @@ fn judge_lines(release: usize, program: &[u8], input: &[u8]) -> Judged
 }
 
 // A file that is too long is not looked at.
-pub fn judge(release: usize, program: &[u8], input: &[u8]) -> Judgement
-    ensures { result ≡ judgement release input.now }
+pub fn judge(program: &[u8], input: &[u8]) -> Judgement
+    ensures { result ≡ judgement input.now }
 {
     if MOST < input.len() {
         return Judgement::TooLong;
     }
-    Judgement::Lines(judge_lines(release, program, input))
+    Judgement::Lines(judge_lines(program, input))
 }

@@ -12,7 +12,7 @@ use Rattle.cache.specs.Fetch.{fetch_says, fetch_state, fetch_store, fetch_dest}
 use Rattle.cache.specs.End.{end_says, end_state, end_store}
 use Rattle.cache.specs.HostWrite.{host_says, host_window}
 use Rattle.cache.specs.OwnWrite.{own_says, own_state, own_store, own_window}
-use Rattle.frames.specs.Layout.{is_release, length_bits, spare_bits, least_length, fields_in}
+use Rattle.frames.specs.Layout.{fields_of}
 use Rattle.frames.specs.Kinds.{data_size}
 use Rattle.frames.specs.Checks.{not_zero, zero_broken}
 use Rattle.frames.specs.Read.{fields_say, read_says}
@@ -40,9 +40,9 @@ module _ (s : State) (store window : List ℕ) (c a : ℕ) (bytes : List ℕ) wh
   abbrev pub own_keeps : List ℕ
   own_keeps = own_store s store window c a bytes
 
--- what reading a frame of release 1 answers
+-- what reading a frame answers
 abbrev pub read_answers : (frame : List ℕ) → Reply
-read_answers frame = read_says 1 frame
+read_answers frame = read_says frame
 
 -- what any call answers, delivers and leaves: the machine, and the window that it was lent
 abbrev pub answers : Machine → Call → Reply
@@ -124,7 +124,7 @@ as_expected same (is y) x = same y x
 
 -- does each step give what it must, the machine handed on from one to the next?
 unfoldable pub passes : Machine → List Step → Bool
-unfolding same_numbers same_answer same_records as_expected read_says fields_say is_release length_bits spare_bits least_length fields_in data_size not_zero zero_broken host_says host_window own_says
+unfolding same_numbers same_answer same_records as_expected read_says fields_say fields_of data_size not_zero zero_broken host_says host_window own_says
     own_state own_store own_window begin_says begin_state begin_store end_says end_state end_store fetch_says fetch_state fetch_store fetch_dest accepted verdict
     all ascending command_holds holds total held span count_fresh count_held keep lowest highest joined addresses place looked_up_to looked
 passes m [] = true

@@ -1,11 +1,11 @@
 -- The number of each refusal (01, the agreed scope, "Turned away because of the input", "Turned away because of the
--- state"; 30 is of request F-2 of 02, the agreed changes, 31 and 32 are of F-5, 33 and 34 of F-7; docs/RULES.md has their rules).
+-- state"; 30 is of request F-2 of 02, the agreed changes, 31 and 32 are of F-5; docs/RULES.md has their rules).
 use Rattle.std.specs.Prelude.{ℕ}
 use Rattle.state.specs.declared.refusal.Refusal.{Refusal}
 use Rattle.state.specs.declared.refusal.Refusal.TheVariants.{FrameTooShort, UnknownKind, FieldNotZero, LengthTooLong, DataMismatch, CommandTooHigh}
 use Rattle.state.specs.declared.refusal.Refusal.TheVariants.{WindowTooLong, StoreWrongSize, OutsideWindow, BufferTooShort, AddressTooHigh, StateBroken}
 use Rattle.state.specs.declared.refusal.Refusal.TheVariants.{CommandNotOpen, CommandAlreadyOpen, TooManyBytes, TooManyRecords, NoSuchRecord, WindowBeyondMap}
-use Rattle.state.specs.declared.refusal.Refusal.TheVariants.{TransferOutOfRange, EntryMisaligned, UnknownRelease, LengthZero}
+use Rattle.state.specs.declared.refusal.Refusal.TheVariants.{TransferOutOfRange, EntryMisaligned}
 
 abbrev pub number : Refusal → ℕ
 number FrameTooShort = 1
@@ -28,5 +28,3 @@ number NoSuchRecord = 25
 number WindowBeyondMap = 30
 number TransferOutOfRange = 31
 number EntryMisaligned = 32
-number UnknownRelease = 33
-number LengthZero = 34

@@ -29,9 +29,6 @@ pub enum Refusal {
     // by the page walk alone, because of the input and of what its lists hold
     TransferOutOfRange,
     EntryMisaligned,
-    // by the reader and the writer of frames alone, because of the input
-    UnknownRelease,
-    LengthZero,
 }
 
 impl Refusal {
@@ -59,8 +56,6 @@ impl Refusal {
             Refusal::WindowBeyondMap => 30,
             Refusal::TransferOutOfRange => 31,
             Refusal::EntryMisaligned => 32,
-            Refusal::UnknownRelease => 33,
-            Refusal::LengthZero => 34,
         }
     }
 }

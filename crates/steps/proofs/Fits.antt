@@ -14,17 +14,17 @@ use Rattle.steps.specs.declared.Framed.TheVariants.{Frame}
 use Rattle.steps.specs.Frame.{framed_says, data_in, meaning_says}
 
 -- the reply to a step that is written is how many bytes its frame has, for which there is room
-replied_fits : (release kind command address size given room n : ℕ) → replied (n ∷ []) ≡ write_says release kind command address size given room → n ≤ room
+replied_fits : (kind command address size given room n : ℕ) → replied (n ∷ []) ≡ write_says kind command address size given room → n ≤ room
 unfolding accepted
-replied_fits release kind command address size given room n e =
-    let w = writable release kind command address size given room (sym (ap accepted e)) in
-    let same : replied (n ∷ []) ≡ replied (frame_size kind size ∷ []) = e ∙ writes release kind command address size given room w in
+replied_fits kind command address size given room n e =
+    let w = writable kind command address size given room (sym (ap accepted e)) in
+    let same : replied (n ∷ []) ≡ replied (frame_size kind size ∷ []) = e ∙ writes kind command address size given room w in
     let count : n ≡ frame_size kind size = cc in omega (arith, w.fits)
 
-pub frame_fits : (release : ℕ) (meaning : Meaning) (buffer output : List ℕ) (n : ℕ) → framed_says (Frame n) ≡ meaning_says release meaning buffer output → n ≤ length output
+pub frame_fits : (meaning : Meaning) (buffer output : List ℕ) (n : ℕ) → framed_says (Frame n) ≡ meaning_says meaning buffer output → n ≤ length output
 unfolding meaning_says
-frame_fits release Nothing buffer output n e = let z : ◌≡◌ {A = ℕ} 0 1 = cc in absurd (omega arith)
-frame_fits release (Bad fault) buffer output n e = let z : ◌≡◌ {A = ℕ} 0 1 = cc in absurd (omega arith)
-frame_fits release (StepMeant s) buffer output n e =
-    let r : replied (n ∷ []) ≡ write_says release s.kind s.command s.address s.size (length (data_in buffer s)) (length output) = cc in
-    replied_fits release s.kind s.command s.address s.size (length (data_in buffer s)) (length output) n r
+frame_fits Nothing buffer output n e = let z : ◌≡◌ {A = ℕ} 0 1 = cc in absurd (omega arith)
+frame_fits (Bad fault) buffer output n e = let z : ◌≡◌ {A = ℕ} 0 1 = cc in absurd (omega arith)
+frame_fits (StepMeant s) buffer output n e =
+    let r : replied (n ∷ []) ≡ write_says s.kind s.command s.address s.size (length (data_in buffer s)) (length output) = cc in
+    replied_fits s.kind s.command s.address s.size (length (data_in buffer s)) (length output) n r

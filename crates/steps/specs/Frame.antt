@@ -1,4 +1,4 @@
--- The frame of a line, in a release.
+-- The frame of a line.
 use Rattle.std.specs.Prelude.{ℕ, min, ◌≡◌, List, [], ◌∷◌, length, take}
 use Rattle.state.specs.Refusals.{number}
 use Rattle.state.specs.Verdict.{Reply, refused, replied}
@@ -26,20 +26,19 @@ framed_says (Refused r) = answered (refused (number r))
 abbrev pub data_in : List ℕ → Step → List ℕ
 data_in buffer step = take (min step.given (length buffer)) buffer
 
-module _ (release : ℕ) where
-  -- what is said of a line that means this, where its data stand at the front of the buffer
-  unfoldable pub meaning_says : Meaning → (buffer output : List ℕ) → Said
-  meaning_says NothingMeant buffer output = nothing
-  meaning_says (BadMeant fault) buffer output = faulty fault
-  meaning_says (StepMeant step) buffer output =
-      answered (write_says release step.kind step.command step.address step.size (length (data_in buffer step)) (length output))
+-- what is said of a line that means this, where its data stand at the front of the buffer
+unfoldable pub meaning_says : Meaning → (buffer output : List ℕ) → Said
+meaning_says NothingMeant buffer output = nothing
+meaning_says (BadMeant fault) buffer output = faulty fault
+meaning_says (StepMeant step) buffer output =
+    answered (write_says step.kind step.command step.address step.size (length (data_in buffer step)) (length output))
 
-  -- and the output afterwards: the frame at its front, or all of it as it was
-  unfoldable pub meaning_output : Meaning → (buffer output : List ℕ) → List ℕ
-  meaning_output NothingMeant buffer output = output
-  meaning_output (BadMeant fault) buffer output = output
-  meaning_output (StepMeant step) buffer output = write_output release step.kind step.command step.address step.size (data_in buffer step) output
+-- and the output afterwards: the frame at its front, or all of it as it was
+unfoldable pub meaning_output : Meaning → (buffer output : List ℕ) → List ℕ
+meaning_output NothingMeant buffer output = output
+meaning_output (BadMeant fault) buffer output = output
+meaning_output (StepMeant step) buffer output = write_output step.kind step.command step.address step.size (data_in buffer step) output
 
-pub record Frames (release : ℕ) (meaning : Meaning) (buffer output : List ℕ) (r : Framed) (output' : List ℕ) : Type 0 where
-  pub says : framed_says r ≡ meaning_says release meaning buffer output
-  pub bytes : output' ≡ meaning_output release meaning buffer output
+pub record Frames (meaning : Meaning) (buffer output : List ℕ) (r : Framed) (output' : List ℕ) : Type 0 where
+  pub says : framed_says r ≡ meaning_says meaning buffer output
+  pub bytes : output' ≡ meaning_output meaning buffer output

@@ -1,4 +1,4 @@
-// The frame of a line, in a release.
+// The frame of a line.
 ghost use Rattle.std.specs.Prelude.{◌≡◌, length, take};
 ghost use Rattle.octets.specs.Lists.{overwrite};
 ghost use Rattle.frames.specs.Write.{write_reply};
@@ -21,12 +21,11 @@ fn framed(answer: WriteAnswer) -> Framed
 }
 
 // The frame of a step whose data stand at the front of a buffer. It is made at the front of the output.
-fn written(release: usize, step: Step, buffer: &[u8], output: &mut [u8]) -> Framed
-    ensures { Frames release (Meaning.Step step) buffer.now output.old result output.new }
+fn written(step: Step, buffer: &[u8], output: &mut [u8]) -> Framed
+    ensures { Frames (Meaning.Step step) buffer.now output.old result output.new }
 {
     let n = lesser(step.given, buffer.len());
     framed(frames::write(
-        release,
         step.kind,
         step.command,
         step.address,
@@ -37,13 +36,13 @@ fn written(release: usize, step: Step, buffer: &[u8], output: &mut [u8]) -> Fram
 }
 
 // The frame of a line, made at the front of the output. The data of the line are put to the front of the buffer on the way.
-pub fn frame_of(release: usize, line: &[u8], buffer: &mut [u8], output: &mut [u8]) -> Framed
-    ensures frames { Frames release (line_means line.now) buffer.new output.old result output.new }
+pub fn frame_of(line: &[u8], buffer: &mut [u8], output: &mut [u8]) -> Framed
+    ensures frames { Frames (line_means line.now) buffer.new output.old result output.new }
     ensures bytes { buffer.new ≡ overwrite buffer.old 0 (take (length buffer.old) (line_data line.now)) }
 {
     match parse(line, buffer) {
         Meaning::Nothing => Framed::Nothing,
         Meaning::Bad(fault) => Framed::Bad(fault),
-        Meaning::Step(step) => written(release, step, buffer, output),
+        Meaning::Step(step) => written(step, buffer, output),
     }
 }

@@ -1,4 +1,5 @@
 // Steps in readable form, one a line: what a line says, and the frame that it stands for.
+#![tactic(auto)]
 use fields::Fault;
 use state::Refusal;
 

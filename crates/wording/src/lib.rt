@@ -1,4 +1,5 @@
-// What was read of a frame of a release and what came of it, in words.
+// What was read of a frame and what came of it, in words.
+#![tactic(auto)]
 use frames::{ReadAnswer, Step};
 use log::Answer;
 use octets::put;
@@ -29,14 +30,13 @@ fn put_step(
 pub fn put_words(
     line: &mut [u8],
     at: usize,
-    release: usize,
     frame: &[u8],
     answer: Answer,
     before: &[u16; CacheState::WORDS],
     state: &[u16; CacheState::WORDS],
     delivered: &[u8],
 ) -> usize {
-    match frames::read(release, frame) {
+    match frames::read(frame) {
         ReadAnswer::Refused(refusal) => {
             let next = put(line, at, b"an unreadable frame");
             put_refused(line, next, refusal)

@@ -44,23 +44,15 @@ pub enum Call {
         command: u64,
         transfer: Transfer,
     },
-    /// The calls of frames, by a release or by the function that takes none.
-    Read {
-        release: Option<u64>,
-        bytes: Bytes,
-    },
+    Read(Bytes),
     /// A frame written with so many bytes of data.
     Write {
-        release: Option<u64>,
         kind: u64,
         command: u64,
         span: Span,
         data: usize,
     },
-    Replay {
-        release: Option<u64>,
-        bytes: Bytes,
-    },
+    Replay(Bytes),
     /// The calls of the byte map.
     MapFresh,
     MapBegin,
@@ -120,27 +112,14 @@ impl Call {
             Call::Own { .. } => "own",
             Call::Show { .. } => "show",
             Call::Walk { .. } => "walk",
-            Call::Read { release: None, .. } => "read",
-            Call::Read { .. } => "read-as",
-            Call::Write { release: None, .. } => "write",
-            Call::Write { .. } => "write-as",
-            Call::Replay { release: None, .. } => "replay",
-            Call::Replay { .. } => "replay-as",
+            Call::Read(_) => "read",
+            Call::Write { .. } => "write",
+            Call::Replay(_) => "replay",
             Call::MapFresh => "map-fresh",
             Call::MapBegin => "map-begin",
             Call::MapFetch { .. } => "map-fetch",
             Call::MapEnd => "map-end",
             Call::MapOwn { .. } => "map-own",
-        }
-    }
-
-    /// The release of frames that the call is given, if it is given one.
-    pub fn release(&self) -> Option<u64> {
-        match self {
-            Call::Read { release, .. }
-            | Call::Write { release, .. }
-            | Call::Replay { release, .. } => *release,
-            _ => None,
         }
     }
 
@@ -156,7 +135,7 @@ impl Call {
                 made_bytes(seed, span.length as usize)
             }
             Call::Write { data, .. } => made_bytes(seed, *data),
-            Call::Read { bytes, .. } | Call::Replay { bytes, .. } => {
+            Call::Read(bytes) | Call::Replay(bytes) => {
                 [bytes.given.clone(), made_bytes(seed, bytes.made)].concat()
             }
             _ => vec![],
@@ -172,9 +151,6 @@ pub fn made_bytes(seed: u64, length: usize) -> Vec<u8> {
 impl fmt::Display for Call {
     fn fmt(&self, out: &mut fmt::Formatter<'_>) -> fmt::Result {
         write!(out, "{}", self.name())?;
-        if let Some(release) = self.release() {
-            write!(out, " {release}")?;
-        }
         match self {
             Call::Release | Call::Fresh => Ok(()),
             Call::MapFresh | Call::MapBegin | Call::MapEnd => Ok(()),
@@ -190,13 +166,12 @@ impl fmt::Display for Call {
                 let Transfer { prp1, prp2, length } = transfer;
                 write!(out, " {command} {prp1} {prp2} {length}")
             }
-            Call::Read { bytes, .. } | Call::Replay { bytes, .. } => write!(out, "{bytes}"),
+            Call::Read(bytes) | Call::Replay(bytes) => write!(out, "{bytes}"),
             Call::Write {
                 kind,
                 command,
                 span,
                 data,
-                ..
             } => {
                 write!(out, " {kind} {command} {}+{}", span.start, span.length)?;
                 write!(out, " {data}")

@@ -15,9 +15,6 @@ use crate::call::Call;
 /// The number of the interface that this package is written for.
 const RELEASE: u64 = 3;
 
-/// The release of frames that the functions have that take none.
-const FRAMES: u64 = 1;
-
 /// What the calls in the reference are made on.
 #[derive(Clone)]
 pub struct Expected {
@@ -35,21 +32,18 @@ impl Expected {
                 self.book = Book::fresh();
                 Answer::new([])
             }
-            Call::Read { release, .. } => Answer::of(step_of(release.unwrap_or(FRAMES), data)),
+            Call::Read(_) => Answer::of(step_of(data)),
             Call::Write {
-                release,
                 kind,
                 command,
                 span,
                 ..
             } => {
-                let release = release.unwrap_or(FRAMES);
-                let Span { start, length } = span;
                 let output = self.buffers.output.lent();
-                let made = write_frame(release, kind, command, start, length, data, output);
+                let made = write_frame(kind, command, span.start, span.length, data, output);
                 Answer::of(made.map(|length| [length as u64]))
             }
-            Call::Replay { release, .. } => self.replay(release.unwrap_or(FRAMES), data),
+            Call::Replay(_) => self.replay(data),
             _ if call.is_of_the_map() => self.make_on_map(call, data),
             _ => self.make_on_book(call, data),
         }
@@ -140,13 +134,13 @@ impl Expected {
     }
 
     /// A journal has its own book. Its log is cut where the output ends.
-    fn replay(&mut self, release: u64, journal: &[u8]) -> Answer {
+    fn replay(&mut self, journal: &[u8]) -> Answer {
         let lent = Lent {
             store: self.buffers.store.lent(),
             window: self.buffers.window.lent(),
             destination: self.buffers.destination.lent(),
         };
-        let run = replay(release, journal, lent);
+        let run = replay(journal, lent);
         let output = self.buffers.output.lent();
         let written = run.log.len().min(output.len());
         output[..written].copy_from_slice(&run.log.as_bytes()[..written]);
@@ -156,8 +150,8 @@ impl Expected {
 }
 
 /// Kind, command, address and length of a frame, and the bytes it took up.
-fn step_of(release: u64, frame: &[u8]) -> Result<[u64; 5], Refusal> {
-    let frame = read_frame(release, frame)?;
+fn step_of(frame: &[u8]) -> Result<[u64; 5], Refusal> {
+    let frame = read_frame(frame)?;
     let [kind, command, address, length] = match frame.step {
         Step::Begin { command } => [0, command, 0, 0],
         Step::Fetch {

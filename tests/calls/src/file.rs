@@ -160,8 +160,6 @@ mod tests {
                     walk 3 4 18446744073709551608 65536\nlend scratch 300\nlend addresses 0\n\
                     lend lengths 40\nprp 131065 18446744073709551615\nprp 0 4096 1 0\n\
                     write 9 8 65536+4097 1\nreplay 08 00\nlend window 0\nlend store 65536\n\
-                    read-as 2\nread-as 18446744073709551615 28 00 +3\nreplay-as 1 08 +2\n\
-                    write-as 0 9 8 65536+4097 1\n\
                     fill output 7\nwords 7 128 65535\npart two words\nmap-fresh\nmap-begin\n\
                     map-fetch 4095+1\nmap-end\nmap-open 18446744073709551615\n\
                     map-words 62 0 18446744073709551615\nmap-values 4094 255 0\nmap-runs 64 1+2 64";
@@ -222,7 +220,7 @@ mod tests {
     }
 
     /// A line that cannot be read, and why.
-    const BAD: [(&str, &str); 54] = [
+    const BAD: [(&str, &str); 50] = [
         ("bgin 1", "'bgin' is not known"),
         ("begin", "a word is missing at the end"),
         ("begin 1 2", "'2' is too much"),
@@ -244,10 +242,6 @@ mod tests {
         ("read zz", "'zz' is not made of pairs of hexadecimal digits"),
         ("read 28 +x", "'x' is no number of 64 bits"),
         ("read +1 28", "'28' is too much"),
-        ("read-as", "a word is missing at the end"),
-        ("read-as +1", "'+1' is no number of 64 bits"),
-        ("replay-as 0x08", "'0x08' is no number of 64 bits"),
-        ("write-as 2 1 16+4 0", "'16+4' is no number of 64 bits"),
         ("lend stores 1", "'stores' is no buffer"),
         ("lend store 65537", "65537 is above 65536"),
         ("lend scratch 301", "301 is above 300"),

@@ -8,7 +8,6 @@
 //! - [`random`]: lists of calls that depend on a seed alone; [`states`] has the
 //!   words that some start from, and [`walks`] the walks and page entries in them.
 //! - [`map_lists`]: such lists of calls of the byte map.
-//! - [`frames`]: calls of frames at the limits of their fields, in every release.
 //!
 //! Calling and comparing:
 //! - [`buffers`]: the buffers of which parts are lent.
@@ -25,7 +24,6 @@ pub mod buffers;
 pub mod call;
 pub mod expected;
 pub mod file;
-pub mod frames;
 pub mod library;
 pub mod line;
 #[cfg(test)]

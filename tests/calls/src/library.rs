@@ -25,11 +25,8 @@ impl Library {
                 boundary::fresh(&mut self.words);
                 Answer::new([])
             }
-            Call::Read { release, .. } => {
-                let step = match release {
-                    None => boundary::frame_read(data),
-                    Some(release) => boundary::frame_read_as(release as usize, data),
-                };
+            Call::Read(_) => {
+                let step = boundary::frame_read(data);
                 let fields = [
                     step.kind,
                     step.command,
@@ -40,13 +37,18 @@ impl Library {
                 Answer::status(step.status, fields.map(|number| number as u64))
             }
             Call::Write {
-                release,
                 kind,
                 command,
                 span,
                 ..
-            } => self.write(release, kind, command, span, data),
-            Call::Replay { release, .. } => self.replay(release, data),
+            } => {
+                let [kind, command] = [kind, command].map(|number| number as usize);
+                let (address, length) = (span.start as usize, span.length as usize);
+                let output = self.buffers.output.lent();
+                let framed = boundary::frame_write(output, kind, command, address, length, data);
+                Answer::status(framed.status, [framed.length as u64])
+            }
+            Call::Replay(_) => self.replay(data),
             _ if call.is_of_the_map() => self.make_on_map(call, data),
             _ => self.make_on_state(call, data),
         }
@@ -166,39 +168,14 @@ impl Library {
         ))
     }
 
-    fn write(
-        &mut self,
-        release: Option<u64>,
-        kind: u64,
-        command: u64,
-        span: Span,
-        data: &[u8],
-    ) -> Answer {
-        let [kind, command] = [kind, command].map(|number| number as usize);
-        let (address, length) = (span.start as usize, span.length as usize);
-        let output = self.buffers.output.lent();
-        let framed = match release {
-            None => boundary::frame_write(output, kind, command, address, length, data),
-            Some(release) => {
-                let release = release as usize;
-                boundary::frame_write_as(release, output, kind, command, address, length, data)
-            }
-        };
-        Answer::status(framed.status, [framed.length as u64])
-    }
-
-    fn replay(&mut self, release: Option<u64>, journal: &[u8]) -> Answer {
-        let store = self.buffers.store.lent();
-        let window = self.buffers.window.lent();
-        let destination = self.buffers.destination.lent();
-        let output = self.buffers.output.lent();
-        let replayed = match release {
-            None => boundary::journal_replay(journal, store, window, destination, output),
-            Some(release) => {
-                let release = release as usize;
-                boundary::journal_replay_as(release, journal, store, window, destination, output)
-            }
-        };
+    fn replay(&mut self, journal: &[u8]) -> Answer {
+        let replayed = boundary::journal_replay(
+            journal,
+            self.buffers.store.lent(),
+            self.buffers.window.lent(),
+            self.buffers.destination.lent(),
+            self.buffers.output.lent(),
+        );
         let counts = [replayed.written, replayed.carried, replayed.refused];
         let [written, carried, refused] = counts.map(|count| count as u64);
         Answer::new([written, carried, refused, u64::from(replayed.early)])

@@ -8,8 +8,6 @@
 //! walk C PRP1 PRP2 N                              a transfer of N bytes
 //! read HEX.. [+N]           replay HEX.. [+N]     these bytes, then N made ones
 //! write KIND C A+N DATA                           DATA made bytes
-//! read-as R HEX.. [+N]      replay-as R HEX.. [+N]
-//! write-as R KIND C A+N DATA                      the same with a release
 //! map-fresh  map-begin  map-fetch A+N  map-end    calls of the byte map
 //! map-own A+N                                     one with N made bytes
 //!
@@ -123,21 +121,14 @@ fn call(name: &str, rest: &mut Rest) -> Result<Option<Call>, String> {
                 length: rest.number()?,
             },
         },
-        "read" | "read-as" => Call::Read {
-            release: rest.release(name)?,
-            bytes: rest.bytes()?,
-        },
-        "write" | "write-as" => Call::Write {
-            release: rest.release(name)?,
+        "read" => Call::Read(rest.bytes()?),
+        "write" => Call::Write {
             kind: rest.number()?,
             command: rest.number()?,
             span: rest.span()?,
             data: rest.up_to(MOST_DATA)?,
         },
-        "replay" | "replay-as" => Call::Replay {
-            release: rest.release(name)?,
-            bytes: rest.bytes()?,
-        },
+        "replay" => Call::Replay(rest.bytes()?),
         _ => return map_call(name, rest),
     }))
 }
@@ -231,11 +222,6 @@ impl<'a> Rest<'a> {
 
     fn number(&mut self) -> Result<u64, String> {
         parse_number(self.word()?)
-    }
-
-    /// The release that the call of this name is given, if it is given one.
-    fn release(&mut self, name: &str) -> Result<Option<u64>, String> {
-        name.ends_with("-as").then(|| self.number()).transpose()
     }
 
     /// A number that is not above the most.

@@ -11,10 +11,10 @@ const CALLS: &str = include_str!("../calls.txt");
 const USAGE: &str = "\
 usage: calls [--calls N] [--seed S]
 
-Makes the calls of tests/calls/calls.txt, calls of frames at the limits of their
-fields and random ones in the proved library and in the reference: the answer,
-the state's words, the byte map and every buffer must be equal after each. Each
-status that a call can have must be among the answers to the file.
+Makes the calls of tests/calls/calls.txt and random ones in the proved library
+and in the reference: the answer, the state's words, the byte map and every
+buffer must be equal after each. Each status that a call can have must be among
+the answers to the file.
 
   --calls N  at least N random calls (68000), in lists of 240 and lists of 100
              of the byte map, one of each for a seed

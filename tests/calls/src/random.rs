@@ -6,7 +6,7 @@
 use reference::book::Span;
 use reference::limits::COMMANDS;
 use sampling::generator::Generator;
-use sampling::layout::{head, layout, shortest, RELEASES};
+use sampling::layout::head;
 use sampling::spans;
 
 use crate::buffers::Name;
@@ -208,7 +208,6 @@ impl Draft {
         let odd = match (&call, self.numbers.below(25)) {
             (_, 0) => Some(self.odd_lending()),
             (Call::Fetch { span, .. }, 1..=3) => Some(self.close_room(span.length)),
-            (Call::Write { data, .. }, 1..=3) => Some(self.close_output(*data)),
             (Call::Walk { .. }, 1..=3) => Some(self.close_desk()),
             (Call::Walk { .. }, 4..=20) => Some(self.walked_window()),
             _ => None,
@@ -226,14 +225,6 @@ impl Draft {
         let room = length.saturating_add(self.numbers.below(3));
         self.lend(Name::Destination, room.clamp(1, 4_200) as usize - 1);
         Name::Destination
-    }
-
-    /// Lends an output that has just room for a frame with so many data, or just
-    /// not.
-    fn close_output(&mut self, data: usize) -> Name {
-        let head = self.numbers.between(4, 6) as usize;
-        self.lend(Name::Output, head + data);
-        Name::Output
     }
 
     /// Lends all addresses that walks find their lists among.
@@ -288,9 +279,9 @@ impl Draft {
                 command: self.command(),
                 index: self.index(),
             },
-            30..=33 => self.read(),
-            34..=40 => self.write(),
-            41..=54 => self.walk(),
+            30..=32 => self.read(),
+            33..=36 => self.write(),
+            37..=50 => self.walk(),
             _ => {
                 let command = self.command();
                 let span = self.span_of(command);
@@ -361,44 +352,23 @@ impl Draft {
         Span { start, length }
     }
 
-    /// A release of frames or none, mostly one that there is.
-    fn release(&mut self) -> Option<u64> {
-        match self.numbers.below(20) {
-            0..=3 => None,
-            4..=9 => Some(1),
-            10..=17 => Some(2),
-            18 => Some([0, 3][self.numbers.below(2) as usize]),
-            _ => Some(self.odd()),
-        }
-    }
-
-    /// A frame of any fields, and mostly as many bytes as belong to it. Where there
-    /// is no such release it has the layout of the first.
+    /// A frame of any fields, and mostly as many bytes as belong to it.
     fn read(&mut self) -> Call {
-        let release = self.release();
-        let laid = release.filter(|number| RELEASES.contains(number));
-        let laid = laid.unwrap_or(1);
         let [kind, command, address, length] = self.fields();
-        let least = shortest(laid, kind);
-        let most = (1 << layout(laid).length_bits) - 1;
-        let field = length.saturating_sub(least).min(most);
-        let spares = 1 << layout(laid).spare_bits;
-        let spare = u64::from(self.numbers.one_in(10)) * self.numbers.below(spares);
-        let mut given = head(laid, kind, command, address, field, spare);
+        let spare = u64::from(self.numbers.one_in(10)) * self.numbers.below(32);
+        let mut given = head(kind, command, address, length, spare);
         if self.numbers.one_in(10) {
             given.truncate(self.numbers.below(5) as usize);
         }
         let made = match self.numbers.below(3) {
             0 => self.numbers.below(40),
-            _ => field + least,
+            _ => length,
         };
         let made = made as usize;
-        let bytes = Bytes { given, made };
-        Call::Read { release, bytes }
+        Call::Read(Bytes { given, made })
     }
 
     fn write(&mut self) -> Call {
-        let release = self.release();
         let [kind, command, start, length] = self.fields();
         let [kind, command, start] =
             [kind, command, start].map(|number| match self.numbers.below(20) {
@@ -411,7 +381,6 @@ impl Draft {
             _ => 0,
         };
         Call::Write {
-            release,
             kind,
             command,
             span: Span { start, length },

@@ -5,7 +5,6 @@ use std::fmt;
 use compare::workers;
 
 use crate::file::Item;
-use crate::frames;
 use crate::map_lists;
 use crate::pair::Pair;
 use crate::random;
@@ -19,18 +18,6 @@ pub struct Outcome {
     pub complaints: Vec<String>,
 }
 
-impl Outcome {
-    /// What came of several lists.
-    fn of(outcomes: impl IntoIterator<Item = Outcome>) -> Outcome {
-        let mut all = Outcome::default();
-        for outcome in outcomes {
-            all.tally.add(&outcome.tally);
-            all.complaints.extend(outcome.complaints);
-        }
-        all
-    }
-}
-
 /// Carries out lines from the fresh state on.
 pub fn carry_out(items: &[Item]) -> Outcome {
     let mut outcome = Outcome::default();
@@ -42,16 +29,14 @@ pub fn carry_out(items: &[Item]) -> Outcome {
     outcome
 }
 
-/// The sums of a run: of the file, of the frames at their limits, and of the random
-/// lists.
+/// The sums of a run: of the file, and of the random lists.
 pub struct Sums {
     file: Outcome,
-    frames: Outcome,
     random: Outcome,
 }
 
-/// Makes the calls of the file, those of frames at their limits, and at least so
-/// many random ones. Each seed has a list of calls and one of calls of the byte map.
+/// Makes the calls of the file, and at least so many random ones. Each seed has a
+/// list of calls and one of calls of the byte map.
 pub fn run(file: &[Item], calls: u64, seed: u64) -> Sums {
     let lists = calls.div_ceil(random::CALLS + map_lists::CALLS);
     let of_place = |place: u64| {
@@ -59,29 +44,26 @@ pub fn run(file: &[Item], calls: u64, seed: u64) -> Sums {
         let both = [random::list(seed), map_lists::list(seed)];
         both.map(|items| carry_out(&items))
     };
-    let limits = frames::lists();
-    let of_limits = |place: u64| carry_out(&limits[place as usize]);
+    let mut random = Outcome::default();
+    for outcome in workers::share(lists, of_place).into_iter().flatten() {
+        random.tally.add(&outcome.tally);
+        random.complaints.extend(outcome.complaints);
+    }
     Sums {
         file: carry_out(file),
-        frames: Outcome::of(workers::share(limits.len() as u64, of_limits)),
-        random: Outcome::of(workers::share(lists, of_place).into_iter().flatten()),
+        random,
     }
 }
 
 impl Sums {
-    fn all(&self) -> [&Outcome; 3] {
-        [&self.file, &self.frames, &self.random]
-    }
-
     /// Calls that went wrong.
     fn wrong(&self) -> u64 {
-        let wrong = self.all().map(|outcome| outcome.complaints.len() as u64);
-        wrong.iter().sum()
+        (self.file.complaints.len() + self.random.complaints.len()) as u64
     }
 
-    /// Answers that no call can give, of all.
+    /// Answers that no call can give, of both.
     fn impossible(&self) -> Vec<String> {
-        let tallies = self.all().map(|outcome| &outcome.tally);
+        let tallies = [&self.file.tally, &self.random.tally];
         tallies.into_iter().flat_map(Tally::impossible).collect()
     }
 
@@ -93,19 +75,16 @@ impl Sums {
 
     /// Calls that went right.
     fn passed(&self) -> u64 {
-        let calls = self.all().map(|outcome| outcome.tally.calls());
-        calls.iter().sum::<u64>() - self.wrong()
+        self.file.tally.calls() + self.random.tally.calls() - self.wrong()
     }
 }
 
 impl fmt::Display for Sums {
     fn fmt(&self, out: &mut fmt::Formatter<'_>) -> fmt::Result {
-        let complaints = self.all().map(|outcome| &outcome.complaints);
-        for complaint in complaints.into_iter().flatten() {
+        for complaint in self.file.complaints.iter().chain(&self.random.complaints) {
             write!(out, "{complaint}")?;
         }
-        let names = ["the file", "frames at their limits", "random lists"];
-        for (name, outcome) in names.into_iter().zip(self.all()) {
+        for (name, outcome) in [("the file", &self.file), ("random lists", &self.random)] {
             let calls = outcome.tally.calls();
             writeln!(out, "calls of {name}: {calls}; by status:")?;
             write!(out, "{}", outcome.tally)?;

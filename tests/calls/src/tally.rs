@@ -6,9 +6,8 @@ use std::fmt;
 use crate::answer::Answer;
 use crate::call::Call;
 
-/// The calls that have a status, with the numbers that can apply to each. A call
-/// that takes a release of frames is listed with 1, with 2 and with any other.
-pub const CAN_APPLY: [(&str, &[u64]); 19] = [
+/// The calls that have a status, with the numbers that can apply to each.
+pub const CAN_APPLY: [(&str, &[u64]); 13] = [
     ("begin", &[6, 8, 20, 22]),
     ("fetch", &[4, 6, 7, 8, 9, 10, 20, 21, 23, 24]),
     ("end", &[6, 8, 20, 21]),
@@ -17,31 +16,25 @@ pub const CAN_APPLY: [(&str, &[u64]); 19] = [
     ("show", &[6, 20, 21, 25]),
     ("walk", &[31, 10, 6, 7, 8, 20, 21, 32, 9, 23, 24]),
     ("read", &[1, 2, 3, 4, 5]),
-    ("read-as 1", &[1, 2, 3, 4, 5]),
-    ("read-as 2", &[1, 2, 3, 5]),
-    ("read-as ?", &[33]),
     ("write", &[2, 3, 4, 5, 6, 10, 11]),
-    ("write-as 1", &[2, 3, 4, 5, 6, 10, 11]),
-    ("write-as 2", &[2, 3, 4, 5, 34, 6, 10, 11]),
-    ("write-as ?", &[33]),
     ("map-begin", &[20, 22]),
     ("map-fetch", &[4, 30, 9, 10, 20, 21, 24]),
     ("map-end", &[20, 21]),
     ("map-own", &[4, 30, 9, 20, 21, 24]),
 ];
 
-/// Calls as they are listed, and by status, which is 0 for those that were
-/// accepted or have none.
+/// Calls by name and status, 0 for those that were accepted or have none.
 #[derive(Clone, Debug, Default, PartialEq, Eq)]
 pub struct Tally {
-    counts: BTreeMap<(String, u64), u64>,
+    counts: BTreeMap<(&'static str, u64), u64>,
 }
 
 impl Tally {
     /// Counts a call with its answer.
     pub fn count(&mut self, call: &Call, answer: &Answer) {
-        let name = listed_as(call);
-        let status = answer.numbers.first().filter(|_| has_status(&name));
+        let name = call.name();
+        let has_status = CAN_APPLY.iter().any(|(listed, _)| *listed == name);
+        let status = answer.numbers.first().filter(|_| has_status);
         let key = (name, status.copied().unwrap_or(0));
         *self.counts.entry(key).or_default() += 1;
     }
@@ -49,7 +42,7 @@ impl Tally {
     /// Adds the counts of other calls.
     pub fn add(&mut self, other: &Tally) {
         for (key, count) in &other.counts {
-            *self.counts.entry(key.clone()).or_default() += count;
+            *self.counts.entry(*key).or_default() += count;
         }
     }
 
@@ -59,9 +52,8 @@ impl Tally {
     }
 
     /// How many of these calls had this status.
-    pub fn count_of(&self, name: &str, status: u64) -> u64 {
-        let key = (name.to_string(), status);
-        self.counts.get(&key).copied().unwrap_or(0)
+    pub fn count_of(&self, name: &'static str, status: u64) -> u64 {
+        self.counts.get(&(name, status)).copied().unwrap_or(0)
     }
 
     /// What calls can answer and did not, in words.
@@ -75,39 +67,27 @@ impl Tally {
     /// What calls answered and cannot, in words.
     pub fn impossible(&self) -> Vec<String> {
         let possible = possible();
-        let seen = self.counts.keys().cloned();
-        seen.filter(|key| has_status(&key.0) && !possible.contains(key))
+        let listed = |name| CAN_APPLY.iter().any(|(call, _)| *call == name);
+        let seen = self.counts.keys().copied();
+        seen.filter(|key| listed(key.0) && !possible.contains(key))
             .map(in_words)
             .collect()
     }
 }
 
-/// The name of a call and, if it takes a release of frames, which one that was.
-fn listed_as(call: &Call) -> String {
-    match call.release() {
-        None => call.name().to_string(),
-        Some(release @ 1..=2) => format!("{} {release}", call.name()),
-        Some(_) => format!("{} ?", call.name()),
-    }
-}
-
-fn has_status(name: &str) -> bool {
-    CAN_APPLY.iter().any(|(listed, _)| *listed == name)
-}
-
-/// Each call with each status that it can give. Of a release that there is not no
-/// frame is accepted.
-fn possible() -> Vec<(String, u64)> {
+/// Each call with each status that it can give.
+fn possible() -> Vec<(&'static str, u64)> {
     let statuses = |(name, numbers): &(&'static str, &'static [u64])| {
-        let name = name.to_string();
-        let accepted = Some(0).filter(|_| !name.ends_with('?'));
-        let all = accepted.into_iter().chain(numbers.iter().copied());
-        all.map(move |number| (name.clone(), number))
+        let name = *name;
+        [&[0], *numbers]
+            .concat()
+            .into_iter()
+            .map(move |number| (name, number))
     };
     CAN_APPLY.iter().flat_map(statuses).collect()
 }
 
-fn in_words((name, number): (String, u64)) -> String {
+fn in_words((name, number): (&str, u64)) -> String {
     format!("{name} with status {number}")
 }
 
@@ -119,7 +99,7 @@ impl fmt::Display for Tally {
             line.push(format!("{status}: {count}"));
         }
         for (name, counts) in lines {
-            writeln!(out, "  {name:12}{}", counts.join(", "))?;
+            writeln!(out, "  {name:11}{}", counts.join(", "))?;
         }
         Ok(())
     }

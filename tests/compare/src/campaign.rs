@@ -8,16 +8,15 @@ use sampling::arguments::Arguments;
 
 use crate::case::{Case, Outcome};
 use crate::fixed;
-use crate::tally::{refusals, Tally, LETTERS, WRITE_REFUSALS};
+use crate::tally::{Tally, LETTERS, REFUSALS, WRITE_REFUSALS};
 use crate::workers;
 
 /// So many journals are compared before the sums are looked at again.
 const BATCH: u64 = 250;
 
 /// The sums of a run.
+#[derive(Default)]
 pub struct Sums {
-    /// The release of the frames.
-    release: u64,
     fixed: u64,
     journals: u64,
     /// Cases in which the program was wrong.
@@ -27,10 +26,10 @@ pub struct Sums {
 }
 
 /// Compares all that the arguments ask for, and writes down each complaint.
-pub fn run(arguments: &Arguments<4>, out: &mut impl Write) -> io::Result<Sums> {
+pub fn run(arguments: &Arguments<3>, out: &mut impl Write) -> io::Result<Sums> {
     let program = path::absolute(&arguments.program)?;
-    let [release, journals, seed, frames] = arguments.numbers;
-    let mut sums = Sums::none(release);
+    let [journals, seed, frames] = arguments.numbers;
+    let mut sums = Sums::default();
     compare_fixed(&program, &mut sums, out)?;
     while sums.journals < journals || sums.tally.frames < frames {
         let missing = journals.saturating_sub(sums.journals);
@@ -46,7 +45,7 @@ pub fn run(arguments: &Arguments<4>, out: &mut impl Write) -> io::Result<Sums> {
 }
 
 fn compare_fixed(program: &Path, sums: &mut Sums, out: &mut impl Write) -> io::Result<()> {
-    let cases = fixed::cases(sums.release);
+    let cases = fixed::cases();
     let count = cases.len() as u64;
     let outcomes = workers::share(count, |place| cases[place as usize].put_to(program));
     for outcome in outcomes {
@@ -64,8 +63,7 @@ fn compare_journals(
     sums: &mut Sums,
     out: &mut impl Write,
 ) -> io::Result<()> {
-    let release = sums.release;
-    let of_place = |place| Case::of_seed(release, first.wrapping_add(place));
+    let of_place = |place| Case::of_seed(first.wrapping_add(place));
     let outcomes = workers::share(count, |place| of_place(place).put_to(program));
     for outcome in outcomes {
         let outcome = outcome?;
@@ -77,21 +75,6 @@ fn compare_journals(
 }
 
 impl Sums {
-    fn none(release: u64) -> Sums {
-        Sums {
-            release,
-            fixed: 0,
-            journals: 0,
-            wrong: 0,
-            tally: Tally::default(),
-        }
-    }
-
-    /// What the journals did not reach, in words.
-    fn missing(&self) -> Vec<String> {
-        self.tally.missing(self.release)
-    }
-
     /// Counts a case that went wrong and writes the complaint.
     fn note(&mut self, outcome: &Outcome, out: &mut impl Write) -> io::Result<()> {
         if let Some(complaint) = &outcome.complaint {
@@ -103,20 +86,18 @@ impl Sums {
 
     /// Wrong cases, and what the journals did not reach.
     pub fn failed(&self) -> u64 {
-        self.wrong + self.missing().len() as u64
+        self.wrong + self.tally.missing().len() as u64
     }
 
     /// Right cases, and what the journals reached.
     pub fn passed(&self) -> u64 {
-        let refusals = refusals(self.release).len() + WRITE_REFUSALS.len();
-        let to_reach = (LETTERS.len() + refusals) as u64;
+        let to_reach = (LETTERS.len() + REFUSALS.len() + WRITE_REFUSALS.len()) as u64;
         self.fixed + self.journals + to_reach - self.failed()
     }
 }
 
 impl fmt::Display for Sums {
     fn fmt(&self, out: &mut fmt::Formatter<'_>) -> fmt::Result {
-        writeln!(out, "release of the frames: {}", self.release)?;
         writeln!(out, "fixed cases compared: {}", self.fixed)?;
         writeln!(
             out,
@@ -124,7 +105,7 @@ impl fmt::Display for Sums {
             self.journals
         )?;
         write!(out, "{}", self.tally)?;
-        for missing in self.missing() {
+        for missing in self.tally.missing() {
             writeln!(out, "never reached: {missing}")?;
         }
         writeln!(out, "{} passed, {} failed", self.passed(), self.failed())

@@ -11,10 +11,8 @@ use crate::journals::journal;
 use crate::said::said;
 use crate::tally::Tally;
 
-/// An input, what it is called, the release of frames as which it is read, and
-/// what has to be printed for it.
+/// An input, what it is called, and what has to be printed for it.
 pub struct Case {
-    pub release: u64,
     pub name: String,
     pub input: Vec<u8>,
     pub expected: Vec<u8>,
@@ -29,14 +27,8 @@ pub struct Outcome {
 }
 
 impl Case {
-    pub fn new(
-        release: u64,
-        name: &str,
-        input: impl Into<Vec<u8>>,
-        expected: impl Into<Vec<u8>>,
-    ) -> Case {
+    pub fn new(name: &str, input: impl Into<Vec<u8>>, expected: impl Into<Vec<u8>>) -> Case {
         Case {
-            release,
             name: name.to_string(),
             input: input.into(),
             expected: expected.into(),
@@ -44,25 +36,25 @@ impl Case {
     }
 
     /// A case whose log the reference gives.
-    pub fn of_reference(release: u64, name: &str, input: impl Into<Vec<u8>>) -> Case {
+    pub fn of_reference(name: &str, input: impl Into<Vec<u8>>) -> Case {
         let input = input.into();
-        let expected = log::run(release, &input);
-        Case::new(release, name, input, expected)
+        let expected = log::run(&input);
+        Case::new(name, input, expected)
     }
 
     /// The journal of a seed.
-    pub fn of_seed(release: u64, seed: u64) -> Case {
-        let journal = journal(release, seed);
+    pub fn of_seed(seed: u64) -> Case {
+        let journal = journal(seed);
         let name = format!("journal of seed {seed}, profile {}", journal.profile);
-        Case::of_reference(release, &name, journal.bytes)
+        Case::of_reference(&name, journal.bytes)
     }
 
-    /// Runs the program for the release on the input. Standard output must be the expected log,
+    /// Runs the program on the input. Standard output must be the expected log,
     /// standard error what is to be said of it, and the status 0. An error means
     /// that the program could not be run.
     pub fn put_to(&self, program: &Path) -> io::Result<Outcome> {
         let output = child::run(program, &[], &self.input)?;
-        let said = said(self.release, &self.input, &self.expected);
+        let said = said(&self.input, &self.expected);
         let mut faults = vec![];
         if !output.status.success() {
             faults.push(format!("  status: {}\n", output.status));

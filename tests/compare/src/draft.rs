@@ -2,7 +2,7 @@
 //! to choose the next frame well.
 
 use sampling::generator::Generator;
-use sampling::layout::{frame, layout};
+use sampling::layout;
 
 /// The most bytes that a log program takes as its input.
 pub const LONGEST: usize = 32_768;
@@ -16,10 +16,9 @@ pub const LONGEST_CALL: u64 = 4_096;
 /// The bytes of a frame before its data.
 const HEAD: usize = 5;
 
-/// Frames of one release so far. A frame that would pass the limit is left out.
+/// Frames so far. A frame that would pass the limit is left out.
 pub struct Draft {
     pub numbers: Generator,
-    release: u64,
     limit: usize,
     bytes: Vec<u8>,
     open: [bool; 8],
@@ -28,20 +27,14 @@ pub struct Draft {
 
 impl Draft {
     /// No frames yet; there may be so many bytes of them.
-    pub fn new(release: u64, seed: u64, limit: usize) -> Draft {
+    pub fn new(seed: u64, limit: usize) -> Draft {
         Draft {
             numbers: Generator::new(seed),
-            release,
             limit,
             bytes: vec![],
             open: [false; 8],
             held: Default::default(),
         }
-    }
-
-    /// The release of the frames.
-    pub fn release(&self) -> u64 {
-        self.release
     }
 
     /// The journal as it stands.
@@ -83,28 +76,23 @@ impl Draft {
         self.begin(command);
     }
 
-    /// The length that is nearest to this one among those of frames that can be
-    /// read.
-    pub fn length(&self, length: u64) -> u64 {
-        length.clamp(layout(self.release).shortest, LONGEST_CALL)
-    }
-
     pub fn begin(&mut self, command: u64) {
-        if self.step(0, command, 0, 0, &[]) {
+        if self.add(&layout::frame(0, command, 0, 0, &[])) {
             self.open[command as usize] = true;
         }
     }
 
-    /// The length becomes one that a frame can have.
+    /// A length above 4,096 is brought down to it, since a frame of more
+    /// cannot be read.
     pub fn fetch(&mut self, command: u64, address: u64, length: u64) {
-        let length = self.length(length);
-        if self.step(1, command, address, length, &[]) {
+        let length = length.min(LONGEST_CALL);
+        if self.add(&layout::frame(1, command, address, length, &[])) {
             self.remember(command, address, length);
         }
     }
 
     pub fn end(&mut self, command: u64) {
-        if self.step(2, command, 0, 0, &[]) {
+        if self.add(&layout::frame(2, command, 0, 0, &[])) {
             self.open[command as usize] = false;
             self.held[command as usize].clear();
         }
@@ -119,20 +107,18 @@ impl Draft {
     }
 
     pub fn host_write(&mut self, address: u64, data: &[u8]) {
-        self.step(3, 0, address, data.len() as u64, data);
+        self.add(&layout::frame(3, 0, address, data.len() as u64, data));
     }
 
     pub fn own_write(&mut self, command: u64, address: u64, data: &[u8]) {
         let length = data.len() as u64;
-        if self.step(4, command, address, length, data) {
+        if self.add(&layout::frame(4, command, address, length, data)) {
             self.remember(command, address, length);
         }
     }
 
-    /// A fetch or, one in four, an own write of any bytes. The length becomes one
-    /// that a frame can have.
+    /// A fetch or, one in four, an own write of any bytes.
     pub fn fetch_or_write(&mut self, command: u64, address: u64, length: u64) {
-        let length = self.length(length);
         if self.numbers.one_in(4) {
             let data = self.numbers.bytes(length as usize);
             self.own_write(command, address, &data);
@@ -148,11 +134,6 @@ impl Draft {
         }
     }
 
-    /// Adds the frame of a step, if it finds room, and answers whether it did.
-    fn step(&mut self, kind: u64, command: u64, address: u64, length: u64, data: &[u8]) -> bool {
-        self.add(&frame(self.release, kind, command, address, length, data))
-    }
-
     /// Adds any bytes, if they find room, and answers whether they did.
     pub fn add(&mut self, bytes: &[u8]) -> bool {
         let fits = bytes.len() <= self.room();
@@ -162,14 +143,16 @@ impl Draft {
         fits
     }
 
-    /// Adds readable frames up to the limit itself. There must be room for a write
-    /// of one byte at least.
+    /// Adds readable frames up to the limit itself. There must be room for one
+    /// frame at least, or for nothing.
     pub fn fill_up(&mut self) {
-        while self.room() > 2 * HEAD {
+        while self.room() >= 2 * HEAD {
             let (command, address) = (self.numbers.below(8), self.numbers.below(WINDOW));
             self.fetch(command, address, 1);
         }
-        let data = self.numbers.bytes(self.room() - HEAD);
-        self.host_write(0, &data);
+        if self.takes_a_frame() {
+            let data = self.numbers.bytes(self.room() - HEAD);
+            self.host_write(0, &data);
+        }
     }
 }

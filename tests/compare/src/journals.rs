@@ -31,11 +31,11 @@ pub struct Journal {
     pub bytes: Vec<u8>,
 }
 
-/// The journal of a seed in frames of that release. Seeds that follow each other
-/// go through all profiles in turn.
-pub fn journal(release: u64, seed: u64) -> Journal {
+/// The journal of a seed. Seeds that follow each other go through all
+/// profiles in turn.
+pub fn journal(seed: u64) -> Journal {
     let profile = Profile::of(seed);
-    let mut draft = Draft::new(release, seed, LONGEST);
+    let mut draft = Draft::new(seed, LONGEST);
     profile.make(&mut draft);
     Journal {
         profile: profile.name(),

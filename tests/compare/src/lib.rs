@@ -2,8 +2,8 @@
 //! what the program prints has to be the reference's log, byte for byte, and
 //! what it says on standard error the sums of that log.
 //!
-//! A journal is the input of a log program, frames of one release one after the
-//! other. It is made from the release and a seed alone.
+//! A journal is the input of a log program, frames one after the other. It is
+//! made from a seed alone.
 //!
 //! Making journals:
 //! - [`draft`]: a journal that is being put together.
@@ -13,8 +13,7 @@
 //! - [`unreadable`]: frames that end a run.
 //! - [`journals`]: the profiles, and the journal of a seed.
 //! - [`fixed`]: the inputs that are compared in every run, some of them from
-//!   [`heads`], which has the front of a frame wrong in every bit, and some from
-//!   [`crossed`], which has frames of the other release.
+//!   [`heads`], which has the front of a frame wrong in every bit.
 //!
 //! Comparing:
 //! - [`case`]: one input with the log it must give, put to the program.
@@ -31,7 +30,6 @@ pub mod brims;
 pub mod campaign;
 pub mod case;
 pub mod child;
-pub mod crossed;
 pub mod difference;
 pub mod draft;
 pub mod fixed;

@@ -1,5 +1,5 @@
 //! What a log program must say on standard error, worked out from its input and
-//! the log that it must print. There is one program for each release of frames.
+//! the log that it must print.
 
 use std::fmt;
 
@@ -8,30 +8,29 @@ use reference::log::INPUT_BYTES;
 /// The byte order marks of UTF-8 and of UTF-16 in both orders.
 const MARKS: [&[u8]; 3] = [b"\xef\xbb\xbf", b"\xff\xfe", b"\xfe\xff"];
 
-/// The name of the log program for a release, and the program that makes frames
-/// of that release.
-fn names(release: u64) -> (&'static str, &'static str) {
-    if release == 1 {
-        ("fetchlog", "framewriter")
-    } else {
-        ("fetchlog2", "framewriter --release 2")
+/// All that must be said.
+pub fn said(input: &[u8], log: &[u8]) -> String {
+    if input.len() > INPUT_BYTES {
+        let hint = hint(input);
+        return format!(
+            "{hint}fetchlog: the input is above {INPUT_BYTES} bytes, no frame is run\n"
+        );
     }
+    let counts = Counts::of_log(log);
+    let hint = if counts.unreadable > 0 {
+        hint(input)
+    } else {
+        ""
+    };
+    format!("{hint}fetchlog: {counts}\n")
 }
 
-/// All that the program for a release must say.
-pub fn said(release: u64, input: &[u8], log: &[u8]) -> String {
-    let (name, writer) = names(release);
-    let too_long = input.len() > INPUT_BYTES;
-    let counts = Counts::of_log(log);
-    let hint = if is_text(input) && (too_long || counts.unreadable > 0) {
-        format!("{name}: the input looks like steps; {writer} makes frames of steps\n")
+/// What is said of an input that may be steps.
+fn hint(input: &[u8]) -> &'static str {
+    if is_text(input) {
+        "fetchlog: the input looks like steps; framewriter makes frames of steps\n"
     } else {
-        String::new()
-    };
-    if too_long {
-        format!("{hint}{name}: the input is above {INPUT_BYTES} bytes, no frame is run\n")
-    } else {
-        format!("{hint}{name}: {counts}\n")
+        ""
     }
 }
 

@@ -12,16 +12,6 @@ pub const REFUSALS: [u8; 10] = [1, 2, 3, 4, 5, 9, 21, 22, 23, 24];
 /// Those of them that an own write can get.
 pub const WRITE_REFUSALS: [u8; 4] = [9, 21, 23, 24];
 
-/// The refusal that frames of release 2 do not bring about: none is too long.
-const ONLY_RELEASE_1: u8 = 4;
-
-/// Those of [`REFUSALS`] that frames of a release can bring about.
-pub fn refusals(release: u64) -> Vec<u8> {
-    let all = REFUSALS.into_iter();
-    all.filter(|number| release == 1 || *number != ONLY_RELEASE_1)
-        .collect()
-}
-
 /// Lines by what they say.
 #[derive(Clone, Debug, Default, PartialEq, Eq)]
 pub struct Tally {
@@ -85,9 +75,9 @@ impl Tally {
         self.refused.get(&(number, 'W')).copied().unwrap_or(0)
     }
 
-    /// What frames of a release can bring about and did not, in words.
-    pub fn missing(&self, release: u64) -> Vec<String> {
-        self.missing_of(&refusals(release), &WRITE_REFUSALS)
+    /// What frames can bring about and did not, in words.
+    pub fn missing(&self) -> Vec<String> {
+        self.missing_of(&REFUSALS, &WRITE_REFUSALS)
     }
 
     /// Which of the letters have no accepted call, which of these numbers no

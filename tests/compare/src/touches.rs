@@ -21,8 +21,8 @@ pub fn any_touches(draft: &mut Draft) {
     draft.end(command);
 }
 
-/// Spans that touch earlier ones: below, above, between two, and without a byte
-/// or, in release 2, with one.
+/// Spans that touch earlier ones: below, above, between two, and without a
+/// byte.
 fn beside(draft: &mut Draft, command: u64) {
     let middle = draft.numbers.between(3_000, WINDOW - 3_000);
     draft.fetch(command, middle, 4);

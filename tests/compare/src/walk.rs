@@ -111,8 +111,7 @@ impl Place<'_> {
         } else {
             40
         };
-        let length = draft.length(length.min(most));
-        let data = draft.numbers.bytes(length as usize);
+        let data = draft.numbers.bytes(length.min(most) as usize);
         if draft.numbers.one_in(2) {
             draft.host_write(address, &data);
         } else {

@@ -100,7 +100,7 @@ pub const NESTED: Walk = Walk {
     writes: 6,
 };
 
-/// Spans without a byte, or in release 2 of one, among other short ones.
+/// Spans without a byte, among short ones.
 pub const EMPTY: Walk = Walk {
     name: "empty spans",
     frames: (60, 300),

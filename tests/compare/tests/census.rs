@@ -5,7 +5,6 @@ use compare::journals::{journal, Profile, PROFILES};
 use compare::tally::Tally;
 use reference::frames::{read_frame, Step};
 use reference::log;
-use sampling::layout::layout;
 
 const WINDOW: u64 = 16_384;
 
@@ -16,8 +15,6 @@ type Span = (u64, u64);
 /// wrote since its begin; held are the bytes of earlier spans of any open command.
 #[derive(Debug, Default)]
 pub struct Census {
-    /// The release of all frames.
-    release: u64,
     pub journals: u64,
     pub tally: Tally,
     /// Journals without a frame that cannot be read.
@@ -34,8 +31,8 @@ pub struct Census {
     pub touch_both: u64,
     /// Fetches inside or around an earlier span and not the same.
     pub nested: u64,
-    /// Accepted fetches of the shortest length that the release has.
-    pub shortest: u64,
+    /// Accepted fetches without a byte.
+    pub empty: u64,
     /// Accepted fetches and writes of the window's last byte.
     pub last_byte: u64,
     /// Frames whose span has addresses above 65,535.
@@ -51,15 +48,12 @@ pub struct Census {
     pub most_open: usize,
 }
 
-/// The census of so many journals of one profile, by its name, in a release.
-pub fn of_profile(release: u64, name: &str, journals: usize) -> Census {
+/// The census of so many journals of one profile, by its name.
+pub fn of_profile(name: &str, journals: usize) -> Census {
     let seeds = (0..PROFILES * journals as u64).filter(|seed| Profile::of(*seed).name() == name);
-    let mut census = Census {
-        release,
-        ..Census::default()
-    };
+    let mut census = Census::default();
     for seed in seeds {
-        census.take(&journal(release, seed).bytes);
+        census.take(&journal(seed).bytes);
     }
     assert_eq!(census.journals, journals as u64, "no profile {name}");
     census
@@ -68,11 +62,11 @@ pub fn of_profile(release: u64, name: &str, journals: usize) -> Census {
 impl Census {
     /// Goes through a journal, frame by frame and line by line.
     fn take(&mut self, bytes: &[u8]) {
-        let log = log::run(self.release, bytes);
+        let log = log::run(bytes);
         let mut device = Device::new();
         let mut rest = bytes;
         for line in log.lines() {
-            let Ok(frame) = read_frame(self.release, rest) else {
+            let Ok(frame) = read_frame(rest) else {
                 break;
             };
             rest = &rest[frame.consumed..];
@@ -126,8 +120,8 @@ impl Census {
     }
 
     fn look_at_fetch(&mut self, device: &mut Device, command: u64, span: Span, digits: &str) {
-        self.shortest += u64::from(span.1 == layout(self.release).shortest);
         if span.1 == 0 {
+            self.empty += 1;
             return;
         }
         self.stale += u64::from(digits != device.digits(span));

@@ -3,26 +3,23 @@
 use std::ffi::OsString;
 use std::path::PathBuf;
 
-use compare::arguments;
+use compare::arguments::OPTIONS;
 use sampling::arguments::Arguments;
 
-fn parse(words: &[&str]) -> Option<Arguments<4>> {
-    arguments::parse(words.iter().map(OsString::from))
+fn parse(words: &[&str]) -> Option<Arguments<3>> {
+    Arguments::parse(words.iter().map(OsString::from), OPTIONS)
 }
 
-/// A program with the release, the number of journals, the seed and the number of
-/// frames.
-fn arguments(program: &str, numbers: [u64; 4]) -> Option<Arguments<4>> {
+fn arguments(program: &str, journals: u64, seed: u64, frames: u64) -> Option<Arguments<3>> {
     Some(Arguments {
         program: PathBuf::from(program),
-        numbers,
+        numbers: [journals, seed, frames],
     })
 }
 
 #[test]
-fn a_program_alone_gets_2000_journals_of_release_1_from_seed_0() {
-    let numbers = [1, 2_000, 0, 0];
-    assert_eq!(parse(&["./fetchlog"]), arguments("./fetchlog", numbers));
+fn a_program_alone_gets_3000_journals_from_seed_0() {
+    assert_eq!(parse(&["./fetchlog"]), arguments("./fetchlog", 3_000, 0, 0));
 }
 
 #[test]
@@ -30,16 +27,13 @@ fn each_number_is_taken_on_both_sides_of_the_program() {
     let words = [
         "--seed",
         "18446744073709551615",
-        "--release",
-        "2",
         "a/b",
         "--frames",
         "1000000",
         "--journals",
         "7",
     ];
-    let numbers = [2, 7, u64::MAX, 1_000_000];
-    assert_eq!(parse(&words), arguments("a/b", numbers));
+    assert_eq!(parse(&words), arguments("a/b", 7, u64::MAX, 1_000_000));
 }
 
 #[test]
@@ -55,9 +49,6 @@ fn anything_else_is_turned_down() {
         &["a", "--journals", "18446744073709551616"],
         &["a", "--journal", "1"],
         &["a", "--frames=1"],
-        &["a", "--release"],
-        &["a", "--release", "0"],
-        &["a", "--release", "3"],
         &["-h"],
         &["--help"],
     ] {

@@ -1,7 +1,7 @@
 //! How two outputs are held against each other, and how lines are counted.
 
 use compare::difference;
-use compare::tally::{refusals, Tally, LETTERS, REFUSALS};
+use compare::tally::{Tally, LETTERS, REFUSALS};
 use compare::workers;
 
 /// What is printed of the first difference, line by line.
@@ -71,7 +71,7 @@ fn lines_are_counted_by_letter_and_number() {
     );
     let refused = REFUSALS.map(|number| tally.refused(number));
     assert_eq!(refused, [0, 1, 0, 0, 0, 1, 2, 0, 0, 2]);
-    let missing = tally.missing(1);
+    let missing = tally.missing();
     assert_eq!(
         missing[..4],
         [
@@ -86,16 +86,6 @@ fn lines_are_counted_by_letter_and_number() {
         missing[9..],
         ["refusal 21 of an own write", "refusal 23 of an own write"]
     );
-    let mut of_release_2 = missing.clone();
-    of_release_2.retain(|words| words != "refusal 4");
-    assert_eq!(of_release_2.len(), 10);
-    assert_eq!(tally.missing(2), of_release_2);
-}
-
-#[test]
-fn frames_of_release_2_are_never_too_long() {
-    assert_eq!(refusals(1), REFUSALS);
-    assert_eq!(refusals(2), [1, 2, 3, 5, 9, 21, 22, 23, 24]);
 }
 
 #[test]

@@ -3,30 +3,9 @@
 use compare::said::{is_text, said, Counts};
 use reference::log;
 
-/// What must be said of an input in a release, for which the reference gives the
-/// log.
-fn of_release(release: u64, input: &[u8]) -> String {
-    said(release, input, log::run(release, input).as_bytes())
-}
-
-/// The same of release 1.
+/// What must be said of an input, whose log the reference gives.
 fn of(input: &[u8]) -> String {
-    of_release(1, input)
-}
-
-#[test]
-fn each_release_has_a_program_with_a_name_of_its_own() {
-    for input in [&[][..], &[0; 20], &[0; 19], &[0; 32_769], b"B 1\n"] {
-        let renamed = of(input)
-            .replace("fetchlog: ", "fetchlog2: ")
-            .replace("framewriter makes", "framewriter --release 2 makes");
-        assert_eq!(of_release(2, input), renamed);
-    }
-    let [hint, counts] = [
-        "fetchlog2: the input looks like steps; framewriter --release 2 makes frames of steps\n",
-        "fetchlog2: 1 frame, 0 ok, 0 refused, 1 unreadable\n",
-    ];
-    assert_eq!(of_release(2, b"     "), format!("{hint}{counts}"));
+    said(input, log::run(input).as_bytes())
 }
 
 #[test]

@@ -7,11 +7,8 @@ use std::process::{Command, Output};
 
 const RIGHT: &str = env!("CARGO_BIN_EXE_fetchlog-right");
 
-/// A script that is right in release 2.
-const RIGHT_2: &str = concat!(env!("CARGO_MANIFEST_DIR"), "/tests/right-2.sh");
-
-/// How many things the random journals of release 1 must reach, each of which is
-/// counted as passed or failed. Those of release 2 have one fewer.
+/// How many things the random journals must reach, each of which is counted
+/// as passed or failed.
 const TO_REACH: u64 = 19;
 
 /// What a run of `compare` left.
@@ -78,48 +75,22 @@ impl Run {
     }
 }
 
-/// A run of a right program, with these words more, which must pass.
-fn passes(program: &str, release: u64, words: &[&str], to_reach: u64) {
-    let journals = [program, "--journals", "420"];
-    let run = Run::new(&[&journals, words].concat());
+#[test]
+fn the_reference_passes_and_everything_is_reached() {
+    let run = Run::new(&[RIGHT, "--journals", "420"]);
     assert_eq!(run.status, Some(0), "{}", run.out);
     assert_eq!(run.errors, "");
-    assert_eq!(run.number("release of the frames: "), release);
     assert_eq!(run.number("random journals compared: "), 420);
     let fixed = run.number("fixed cases compared: ");
-    assert_eq!(run.sums(), (fixed + 420 + to_reach, 0));
+    assert_eq!(run.sums(), (fixed + 420 + TO_REACH, 0));
     for name in ["B", "F", "E", "H", "W"] {
         assert!(run.number(&format!("  {name}: ")) > 0);
     }
-    for number in [1, 2, 3, 5] {
+    for number in 1..=5 {
         assert!(run.number(&format!("  {number} ?: ")) > 0);
     }
-    assert_eq!(run.out.contains("\n  4 ?: "), release == 1);
     for name in ["9 F", "9 H", "9 W", "21 W", "22 B", "23 W", "24 W"] {
         assert!(run.number(&format!("  {name}: ")) > 0);
-    }
-}
-
-#[test]
-fn the_reference_passes_and_everything_is_reached() {
-    passes(RIGHT, 1, &[], TO_REACH);
-    passes(RIGHT_2, 2, &["--release", "2"], TO_REACH - 1);
-}
-
-#[test]
-fn a_program_of_the_other_release_is_found() {
-    for (program, release) in [(RIGHT, "2"), (RIGHT_2, "1")] {
-        let words = [program, "--release", release, "--journals", "16"];
-        let run = Run::new(&words);
-        assert_eq!(run.status, Some(1), "{}", run.errors);
-        let fixed = run.number("fixed cases compared: ");
-        assert_eq!(run.wrong(), fixed + 16);
-        let complaint = run.complaint("the worked example").join("\n");
-        assert!(
-            complaint.contains("  expected: 2 H ok 4\\n\n"),
-            "{complaint}"
-        );
-        assert!(complaint.contains("  on standard error\n"), "{complaint}");
     }
 }
 
@@ -249,13 +220,7 @@ fn a_wrong_status_is_found() {
 
 #[test]
 fn bad_arguments_bring_the_usage() {
-    let cases: [&[&str]; 5] = [
-        &[],
-        &["--help"],
-        &[RIGHT, "--seed"],
-        &[RIGHT, RIGHT],
-        &[RIGHT, "--release", "3"],
-    ];
+    let cases: [&[&str]; 4] = [&[], &["--help"], &[RIGHT, "--seed"], &[RIGHT, RIGHT]];
     for words in cases {
         let run = Run::new(words);
         assert_eq!(run.status, Some(2));

@@ -19,48 +19,22 @@ pub struct Case {
     pub said: Said,
 }
 
-/// The arguments for frames of release 1, and for those of release 2.
-const FOR_FRAMES: [&[&[&str]]; 2] = [
-    &[
-        &["--frames"],
-        &["--frames", "--release", "1"],
-        &["--release", "1", "--frames"],
-    ],
-    &[
-        &["--frames", "--release", "2"],
-        &["--release", "2", "--frames"],
-    ],
-];
-
-/// The arguments for steps as frames of release 1, and of release 2.
-const FOR_STEPS: [&[&[&str]]; 2] = [&[&[], &["--release", "1"]], &[&["--release", "2"]]];
-
-/// One of the ways to ask for a release, all of which have their turn.
-fn way(
-    ways: [&'static [&'static [&'static str]]; 2],
-    release: u64,
-    turn: u64,
-) -> &'static [&'static str] {
-    let ways = ways[release as usize - 1];
-    ways[turn as usize % ways.len()]
-}
-
 impl Case {
-    /// A journal as frames of a release and as steps, by the reference. The
-    /// expectations of the steps, and the arguments, depend on the seed.
-    pub fn both(release: u64, name: &str, journal: &[u8], seed: u64) -> [Case; 2] {
-        let frames = frames(release, journal);
+    /// A journal as frames and as steps, by the reference. The expectations of
+    /// the steps depend on the seed.
+    pub fn both(name: &str, journal: &[u8], seed: u64) -> [Case; 2] {
+        let frames = frames(journal);
         let (steps, lines) = script(&frames, seed);
         [
             Case {
-                name: format!("{name}, as frames of release {release}"),
-                arguments: way(FOR_FRAMES, release, seed),
+                name: format!("{name}, as frames"),
+                arguments: &["--frames"],
                 input: journal.to_vec(),
                 said: said::of_frames(journal, &frames),
             },
             Case {
-                name: format!("{name}, as steps in release {release}"),
-                arguments: way(FOR_STEPS, release, seed),
+                name: format!("{name}, as steps"),
+                arguments: &[],
                 input: steps.into_bytes(),
                 said: said::of_steps(&frames, &lines),
             },
@@ -68,28 +42,10 @@ impl Case {
     }
 
     /// The journal of a seed, both ways.
-    pub fn of_seed(release: u64, seed: u64) -> [Case; 2] {
-        let journal = journal(release, seed);
+    pub fn of_seed(seed: u64) -> [Case; 2] {
+        let journal = journal(seed);
         let name = format!("journal of seed {seed}, profile {}", journal.profile);
-        Case::both(release, &name, &journal.bytes, seed)
-    }
-
-    /// The steps of a journal of release 1, run in release 2, in which those without
-    /// a byte are bad lines.
-    pub fn of_steps_in_release_2(seed: u64) -> Case {
-        let journal = journal(1, seed);
-        let frames = frames(1, &journal.bytes);
-        let (steps, lines) = script(&frames, seed);
-        let said = match said::of_bad_lines(&frames, &lines, &steps) {
-            Some(said) => said,
-            None => said::of_steps(&frames, &lines),
-        };
-        Case {
-            name: format!("journal of seed {seed} in release 1, as steps in release 2"),
-            arguments: way(FOR_STEPS, 2, seed),
-            input: steps.into_bytes(),
-            said,
-        }
+        Case::both(&name, &journal.bytes, seed)
     }
 
     /// Runs the program on the input, and says what is wrong, if anything is.

@@ -16,14 +16,14 @@ pub struct Frame<'a> {
     pub answer: String,
 }
 
-/// The frames of a journal in a release, up to the first that cannot be read.
-pub fn frames(release: u64, journal: &[u8]) -> Vec<Frame<'_>> {
+/// The frames of a journal up to the first that cannot be read.
+pub fn frames(journal: &[u8]) -> Vec<Frame<'_>> {
     let mut device = Device::fresh();
     let mut rest = journal;
-    let log = log::run(release, journal);
+    let log = log::run(journal);
     log.lines()
         .map(|line| {
-            let (step, words) = match read_frame(release, rest) {
+            let (step, words) = match read_frame(rest) {
                 Ok(frame) => {
                     rest = &rest[frame.consumed..];
                     let came = device.carry_out(&frame.step);

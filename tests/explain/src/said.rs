@@ -1,8 +1,6 @@
 //! All that the program must print and say.
 
 use compare::said::{is_text, Counts};
-use reference::frames::Step;
-use steps::grammar::refusal;
 use steps::quoted::quoted;
 
 use crate::journal::Frame;
@@ -62,37 +60,6 @@ pub fn of_steps(frames: &[Frame], lines: &[Line]) -> Said {
         }
     };
     said
-}
-
-/// What must be said of frames of release 1 that are given as steps for release 2, if
-/// there are steps of length 0. The text has all lines.
-pub fn of_bad_lines(frames: &[Frame], lines: &[Line], text: &str) -> Option<Said> {
-    let steps = frames.iter().filter_map(|frame| frame.step.as_ref());
-    let whole: Vec<&str> = text.split('\n').collect();
-    let bad: Vec<String> = steps
-        .zip(lines)
-        .filter(|(step, _)| is_empty(step))
-        .map(|(_, line)| {
-            let shown = quoted(whole[line.number - 1].as_bytes());
-            format!("explain: line {}: {}: {shown}\n", line.number, refusal(34))
-        })
-        .collect();
-    let count = counted(bad.len() as u64, "bad line");
-    let errors = format!("{}explain: {count}, nothing is run\n", bad.concat());
-    let said = Said {
-        out: String::new(),
-        errors,
-    };
-    Some(said).filter(|_| !bad.is_empty())
-}
-
-/// Whether a fetch or a write has no byte.
-fn is_empty(step: &Step) -> bool {
-    match step {
-        Step::Begin { .. } | Step::End { .. } => false,
-        Step::Fetch { length, .. } => *length == 0,
-        Step::HostWrite { data, .. } | Step::OwnWrite { data, .. } => data.is_empty(),
-    }
 }
 
 fn complaint(number: usize, expected: &str, answer: &str) -> String {

@@ -7,13 +7,11 @@ use std::path::Path;
 use compare::fixed;
 use compare::workers;
 use reference::log::INPUT_BYTES;
-use sampling::layout::RELEASES;
 
 use crate::case::Case;
 
-/// What must be among the lines of the cases of each release; each is a check of
-/// its own.
-pub const TO_REACH: [&str; 33] = [
+/// What must be among the lines of the cases; each is a check of its own.
+pub const TO_REACH: [&str; 39] = [
     " begins\n",
     " ends: 0 records, 0 bytes\n",
     " ends: 1 record, 1 byte\n",
@@ -21,22 +19,28 @@ pub const TO_REACH: [&str; 33] = [
     " ends: 64 records, ",
     "the host writes ",
     ") the host writes ",
+    ": nothing\n",
     " writes ",
     "+1: fresh ",
     "+1: replayed ",
     ", fresh ",
     ", replayed ",
+    "+0: nothing; no records\n",
+    "+0: nothing; records ",
     ": fresh 0+",
     "+1: over ",
     "+1: new ",
     ", over ",
     ", new ",
+    " writes 40+0: nothing; records 14+8\n",
+    " writes 16384+0: nothing; no records\n",
     "...) command ",
     "begins: refused (22): the command is open already\n",
     "ends: refused (21): the command is not open\n",
     ": refused (1): the frame ends before its fifth byte\n",
     ": refused (2): no kind of step has this number\n",
     ": refused (3): a field or bit that must be zero is not\n",
+    ": refused (4): the length is above 4096\n",
     ": refused (5): data and length do not agree\n",
     ": refused (9): the span ends beyond the window\n",
     ": refused (21): the command is not open\n",
@@ -49,136 +53,67 @@ pub const TO_REACH: [&str; 33] = [
     " held, 0 failed\n",
 ];
 
-/// What must be among those of release 1 and can be in no other.
-pub const ONLY_RELEASE_1: [&str; 6] = [
-    ": nothing\n",
-    "+0: nothing; no records\n",
-    "+0: nothing; records ",
-    " writes 40+0: nothing; records 16+4\n",
-    " writes 16384+0: nothing; no records\n",
-    ": refused (4): the length is above 4096\n",
-];
-
-/// What must be among those of release 2 and can be in no other.
-pub const ONLY_RELEASE_2: [&str; 2] = [
-    ": release 2 has no fetch or write of 0 bytes (34): F ",
-    " bad lines, nothing is run\n",
-];
-
-/// So many journals of release 1 are run as steps in release 2, too.
-const CROSSED: u64 = 32;
-
-/// A text that must be among the lines of a release, and whether it is.
-struct Check {
-    release: u64,
-    text: &'static str,
-    reached: bool,
-}
-
 /// The sums of a run.
 pub struct Sums {
     cases: u64,
     complaints: Vec<String>,
-    checks: Vec<Check>,
+    reached: [bool; TO_REACH.len()],
 }
 
-/// What came of cases in one release.
+/// What came of two cases.
 struct Outcome {
-    release: u64,
     complaints: Vec<String>,
-    /// The texts of the release that are among the lines.
-    reached: Vec<&'static str>,
+    reached: [bool; TO_REACH.len()],
 }
 
-/// What must be among the lines of a release.
-fn to_reach(release: u64) -> Vec<&'static str> {
-    let own: &[&str] = match release {
-        1 => &ONLY_RELEASE_1,
-        _ => &ONLY_RELEASE_2,
-    };
-    [&TO_REACH, own].concat()
-}
-
-/// Compares fixed journals of both releases, and so many random ones from a seed on.
+/// Compares fixed journals, and so many random ones from a seed on.
 pub fn run(program: &Path, journals: u64, seed: u64) -> io::Result<Sums> {
-    let mut sums = Sums::none();
-    for release in RELEASES {
-        let mut fixed = fixed::fewer(release);
-        fixed.retain(|case| case.input.len() <= INPUT_BYTES);
-        let of_place = |place: u64| match fixed.get(place as usize) {
-            Some(case) => Case::both(release, &case.name, &case.input, place),
-            None => Case::of_seed(release, seed.wrapping_add(place - fixed.len() as u64)),
-        };
-        let count = fixed.len() as u64 + journals;
-        sums.share(program, release, count, of_place)?;
+    let mut fixed = fixed::cases();
+    fixed.retain(|case| case.input.len() <= INPUT_BYTES);
+    let of_place = |place: u64| match fixed.get(place as usize) {
+        Some(case) => Case::both(&case.name, &case.input, place),
+        None => Case::of_seed(seed.wrapping_add(place - fixed.len() as u64)),
+    };
+    let count = fixed.len() as u64 + journals;
+    let outcomes = workers::share(count, |place| compare(&of_place(place), program));
+    let mut sums = Sums {
+        cases: 2 * count,
+        complaints: vec![],
+        reached: [false; TO_REACH.len()],
+    };
+    for outcome in outcomes {
+        sums.add(outcome?);
     }
-    sums.share(program, 2, CROSSED, |place| {
-        [Case::of_steps_in_release_2(seed.wrapping_add(place))]
-    })?;
     Ok(sums)
 }
 
-fn compare(release: u64, cases: &[Case], program: &Path) -> io::Result<Outcome> {
+fn compare(cases: &[Case], program: &Path) -> io::Result<Outcome> {
     let mut complaints = vec![];
     for case in cases {
         complaints.extend(case.put_to(program)?);
     }
-    let has = |text: &&str| {
+    let has = |text: &str| {
         let mut texts = cases.iter().map(|case| &case.said);
         texts.any(|said| said.out.contains(text) || said.errors.contains(text))
     };
     Ok(Outcome {
-        release,
         complaints,
-        reached: to_reach(release).into_iter().filter(has).collect(),
+        reached: TO_REACH.map(has),
     })
 }
 
 impl Sums {
-    /// No cases yet, and nothing reached.
-    fn none() -> Sums {
-        let of_release = |release| {
-            let texts = to_reach(release).into_iter();
-            texts.map(move |text| Check {
-                release,
-                text,
-                reached: false,
-            })
-        };
-        Sums {
-            cases: 0,
-            complaints: vec![],
-            checks: RELEASES.into_iter().flat_map(of_release).collect(),
-        }
-    }
-
-    /// Compares the cases of so many places in one release.
-    fn share<const COUNT: usize>(
-        &mut self,
-        program: &Path,
-        release: u64,
-        places: u64,
-        of_place: impl Fn(u64) -> [Case; COUNT] + Sync,
-    ) -> io::Result<()> {
-        let work = |place| compare(release, &of_place(place), program);
-        for outcome in workers::share(places, work) {
-            self.add(outcome?);
-        }
-        self.cases += COUNT as u64 * places;
-        Ok(())
-    }
-
     fn add(&mut self, outcome: Outcome) {
         self.complaints.extend(outcome.complaints);
-        let checks = self.checks.iter_mut();
-        for check in checks.filter(|check| check.release == outcome.release) {
-            check.reached |= outcome.reached.contains(&check.text);
+        for (reached, also) in self.reached.iter_mut().zip(outcome.reached) {
+            *reached |= also;
         }
     }
 
     /// What no line has.
-    fn missing(&self) -> impl Iterator<Item = &Check> {
-        self.checks.iter().filter(|check| !check.reached)
+    fn missing(&self) -> impl Iterator<Item = &str> {
+        let checked = TO_REACH.iter().zip(self.reached);
+        checked.filter_map(|(text, reached)| (!reached).then_some(*text))
     }
 
     /// Cases that differ, and what was not reached.
@@ -188,7 +123,7 @@ impl Sums {
 
     /// Cases that do not differ, and what was reached.
     pub fn passed(&self) -> u64 {
-        self.cases + self.checks.len() as u64 - self.failed()
+        self.cases + TO_REACH.len() as u64 - self.failed()
     }
 }
 
@@ -197,10 +132,14 @@ impl fmt::Display for Sums {
         for complaint in &self.complaints {
             write!(out, "{complaint}")?;
         }
-        for Check { release, text, .. } in self.missing() {
-            writeln!(out, "never reached in release {release}: {text:?}")?;
+        for missing in self.missing() {
+            writeln!(out, "never reached: {missing:?}")?;
         }
-        writeln!(out, "inputs compared, frames and steps: {}", self.cases)?;
+        writeln!(
+            out,
+            "journals compared, as frames and as steps: {}",
+            self.cases / 2
+        )?;
         writeln!(out, "{} passed, {} failed", self.passed(), self.failed())
     }
 }

@@ -19,9 +19,6 @@ const LINES: usize = 100;
 /// The kinds of a frame and the three that there are not.
 const KINDS: u64 = 8;
 
-/// The releases of frames and the number below them.
-const RELEASES: u64 = 3;
-
 /// How many pages most walks and page entries are about.
 const PAGES: u64 = 4;
 
@@ -58,15 +55,9 @@ fn line(input: &mut Input) -> Line {
             command: command(input),
             index: input.number(RECORDS_PER_COMMAND as u64),
         },
-        23..=24 => Call::Read {
-            release: release(input),
-            bytes: given(input),
-        },
+        23..=24 => Call::Read(given(input)),
         25..=26 => write(input),
-        27 => Call::Replay {
-            release: release(input),
-            bytes: given(input),
-        },
+        27 => Call::Replay(given(input)),
         28 => return Line::Set(lend(input)),
         29..=30 => return Line::Set(words(input)),
         31 if input.byte() % 2 == 0 => Call::Fresh,
@@ -174,16 +165,6 @@ fn entries(input: &mut Input) -> Setting {
     }
 }
 
-/// A release of frames, mostly one that there is, or none.
-fn release(input: &mut Input) -> Option<u64> {
-    match input.byte() % 8 {
-        0..=1 => None,
-        2..=3 => Some(1),
-        4..=6 => Some(2),
-        _ => Some(input.number(RELEASES)),
-    }
-}
-
 /// Bytes of the input, and some made ones.
 fn given(input: &mut Input) -> Bytes {
     let given = usize::from(input.byte());
@@ -195,7 +176,6 @@ fn given(input: &mut Input) -> Bytes {
 
 /// A frame, more often than not with as many bytes of data as its length says.
 fn write(input: &mut Input) -> Call {
-    let release = release(input);
     let (kind, command, span) = (input.number(KINDS), command(input), span(input));
     let fitting = span.length.min(MOST_DATA as u64) as usize;
     let data = match input.byte() % 4 {
@@ -204,7 +184,6 @@ fn write(input: &mut Input) -> Call {
         _ => fitting,
     };
     Call::Write {
-        release,
         kind,
         command,
         span,
@@ -307,40 +286,6 @@ mod tests {
         let wanted = calls.map(|call| Line::Call(call, vec![]));
         let (first, last) = ([32, 3, 33, 9, 0, 64, 0, 9], [34, 6, 0, 64, 0, 9, 39, 5, 1]);
         assert_eq!(lines(&[&first[..], &last].concat()), wanted);
-    }
-
-    #[test]
-    fn calls_of_frames_are_what_the_bytes_say() {
-        let bytes = |given: &[u8]| Bytes {
-            given: given.to_vec(),
-            made: 3,
-        };
-        let read = |release, given| Call::Read {
-            release,
-            bytes: bytes(given),
-        };
-        let replay = Call::Replay {
-            release: Some(2),
-            bytes: bytes(&[8]),
-        };
-        let write = Call::Write {
-            release: Some(u64::MAX),
-            kind: 4,
-            command: 3,
-            span: Span {
-                start: 64,
-                length: 9,
-            },
-            data: 9,
-        };
-        let calls = [read(None, &[40]), read(Some(1), &[]), replay, write];
-        let wanted = calls.map(|call| Line::Call(call, vec![]));
-        let reads = [23, 0, 1, 40, 0, 3, 24, 2, 0, 0, 3];
-        let replays = [27, 4, 1, 8, 0, 3];
-        let writes = [25, 7, 15, 255, 255, 255, 255, 255, 255, 255, 255];
-        let step = [0, 4, 0, 3, 0, 64, 0, 9, 2];
-        let all = [&reads[..], &replays, &writes, &step].concat();
-        assert_eq!(lines(&all), wanted);
     }
 
     #[test]

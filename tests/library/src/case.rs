@@ -1,6 +1,6 @@
 //! One journal with its buffers, run by the library and by the reference.
 
-use boundary::{journal_replay, journal_replay_as, Replayed};
+use boundary::{journal_replay, Replayed};
 use compare::journals::journal;
 use compare::tally::Tally;
 use sampling::generator::Generator;
@@ -11,29 +11,8 @@ use crate::lent::{self, Buffers, Room};
 /// Added to a journal's seed, so that its buffers are drawn apart from it.
 const APART: u64 = 1 << 40;
 
-/// How the library is asked: by the function that takes no release of frames,
-/// which is of the first, or by the one that takes this release.
-pub type Asked = Option<u64>;
-
-/// All ways to ask for a release that there is.
-pub const ASKED: [Asked; 3] = [None, Some(1), Some(2)];
-
-/// The release that is asked for.
-pub fn release(asked: Asked) -> u64 {
-    asked.unwrap_or(1)
-}
-
-/// The same in words.
-pub fn in_words(asked: Asked) -> String {
-    match asked {
-        None => "no release".to_string(),
-        Some(release) => format!("release {release}"),
-    }
-}
-
 /// A journal, what is lent to it, and what the reference makes of it.
 pub struct Case {
-    asked: Asked,
     name: String,
     input: Vec<u8>,
     given: Buffers,
@@ -43,7 +22,6 @@ pub struct Case {
 
 /// What came of a case: the lines of its log, and what differed.
 pub struct Outcome {
-    pub asked: Asked,
     pub tally: Tally,
     pub room: Room,
     pub complaint: Option<String>,
@@ -51,36 +29,34 @@ pub struct Outcome {
 
 impl Case {
     /// The journal of a seed, with buffers by the same seed.
-    pub fn of_seed(asked: Asked, seed: u64) -> Case {
-        let journal = journal(release(asked), seed);
+    pub fn of_seed(seed: u64) -> Case {
+        let journal = journal(seed);
         let name = format!("journal of seed {seed}, profile {}", journal.profile);
         let mut numbers = Generator::new(seed.wrapping_add(APART));
         let buffers = lent::without_output(&mut numbers);
         let choose = |log: usize| lent::output(&mut numbers, log);
-        Case::new(asked, name, journal.bytes, buffers, choose)
+        Case::new(name, journal.bytes, buffers, choose)
     }
 
     /// An input on the buffers of the log program, with an output of a length.
-    pub fn plain(asked: Asked, name: &str, input: &[u8], output: usize) -> Case {
+    pub fn plain(name: &str, input: &[u8], output: usize) -> Case {
         let choose = |_| (Room::Ample, vec![0; output]);
         let buffers = lent::of_the_log_program();
-        Case::new(asked, name.to_string(), input.to_vec(), buffers, choose)
+        Case::new(name.to_string(), input.to_vec(), buffers, choose)
     }
 
     /// A case whose output is chosen when the length of the log is known.
     fn new(
-        asked: Asked,
         name: String,
         input: Vec<u8>,
         mut given: Buffers,
         choose: impl FnOnce(usize) -> (Room, Vec<u8>),
     ) -> Case {
-        let mut expected = Expected::of(release(asked), &input, given.clone());
+        let mut expected = Expected::of(&input, given.clone());
         let (room, output) = choose(expected.run.log.len());
         expected.buffers.output = output.clone();
         given.output = output;
         Case {
-            asked,
             name,
             input,
             given,
@@ -93,13 +69,11 @@ impl Case {
     pub fn compare(self) -> Outcome {
         let tally = Tally::of_log(self.expected.run.log.as_bytes());
         let (right, expected) = self.expected.leaves();
-        let (reply, found) = run_library(self.asked, &self.input, self.given);
+        let (reply, found) = run_library(&self.input, self.given);
         let mut wrong = different_members(&right, &reply);
         wrong.extend(different_buffers(&expected, &found));
-        let name = format!("{}, by {}", self.name, in_words(self.asked));
-        let complaint = format!("differs: {name}: {}\n", wrong.join(", "));
+        let complaint = format!("differs: {}: {}\n", self.name, wrong.join(", "));
         Outcome {
-            asked: self.asked,
             tally,
             room: self.room,
             complaint: Some(complaint).filter(|_| !wrong.is_empty()),
@@ -108,19 +82,14 @@ impl Case {
 }
 
 /// What the library replies, and the buffers after it.
-fn run_library(asked: Asked, input: &[u8], mut buffers: Buffers) -> (Replayed, Buffers) {
-    let Buffers {
-        store,
-        window,
-        destination,
-        output,
-    } = &mut buffers;
-    let reply = match asked {
-        None => journal_replay(input, store, window, destination, output),
-        Some(release) => {
-            journal_replay_as(release as usize, input, store, window, destination, output)
-        }
-    };
+fn run_library(input: &[u8], mut buffers: Buffers) -> (Replayed, Buffers) {
+    let reply = journal_replay(
+        input,
+        &mut buffers.store,
+        &mut buffers.window,
+        &mut buffers.destination,
+        &mut buffers.output,
+    );
     (reply, buffers)
 }
 
@@ -179,7 +148,7 @@ mod tests {
 
     #[test]
     fn one_changed_member_is_named() {
-        let right = Expected::of(1, &[0; 11], lent::of_the_log_program());
+        let right = Expected::of(&[0; 11], lent::of_the_log_program());
         let (right, _) = right.leaves();
         let (written, carried) = (right.written + 1, right.carried + 1);
         let (refused, early) = (right.refused + 1, right.early ^ 1);
@@ -197,20 +166,9 @@ mod tests {
 
     #[test]
     fn a_library_that_is_given_other_bytes_differs() {
-        for asked in ASKED {
-            let mut case = Case::of_seed(asked, 0);
-            case.given.window[0] ^= 1;
-            assert!(case.compare().complaint.is_some());
-            assert!(Case::of_seed(asked, 0).compare().complaint.is_none());
-        }
-    }
-
-    #[test]
-    fn a_library_that_is_asked_for_another_release_differs() {
-        for (asked, other) in [(None, Some(2)), (Some(2), None), (Some(2), Some(3))] {
-            let mut case = Case::of_seed(asked, 0);
-            case.asked = other;
-            assert!(case.compare().complaint.is_some());
-        }
+        let mut case = Case::of_seed(0);
+        case.given.window[0] ^= 1;
+        assert!(case.compare().complaint.is_some());
+        assert!(Case::of_seed(0).compare().complaint.is_none());
     }
 }

@@ -13,14 +13,14 @@ pub struct Expected {
 }
 
 impl Expected {
-    /// Carries out a journal of a release from the fresh book.
-    pub fn of(release: u64, journal: &[u8], mut buffers: Buffers) -> Expected {
+    /// Carries out a journal from the fresh book.
+    pub fn of(journal: &[u8], mut buffers: Buffers) -> Expected {
         let lent = Lent {
             store: &mut buffers.store,
             window: &mut buffers.window,
             destination: &mut buffers.destination,
         };
-        let run = replay(release, journal, lent);
+        let run = replay(journal, lent);
         Expected { run, buffers }
     }
 

@@ -21,12 +21,10 @@ usage: library [--journals N] [--seed S]
 
 Runs fixed and random journals through the proved library and through the
 reference: the reply, output, store, window and destination must be equal
-after each. Journals are of both releases of frames, and those of the first are
-also run by the function that takes no release. For each of these three, each
-kind of accepted call and each refusal that a journal can bring about is a check
-of its own, and so is each kind of room of an output.
+after each. Each kind of accepted call, each refusal that a journal can bring
+about and each kind of room of an output is a check of its own.
 
-  --journals N  N random journals for each of the three (500)
+  --journals N  N random journals (1000)
   --seed S      seed of the first journal; the next one has S + 1 (0)
 
 The last line is 'N passed, M failed'. Status: 0 if M is 0, else 1; 2 if the
@@ -50,7 +48,7 @@ fn main() -> ExitCode {
 /// The number of journals and the first seed; nothing if the words are not as
 /// [`USAGE`] says.
 fn parse(mut words: impl Iterator<Item = String>) -> Option<(u64, u64)> {
-    let (mut journals, mut seed) = (500, 0);
+    let (mut journals, mut seed) = (1_000, 0);
     while let Some(word) = words.next() {
         let number = match word.as_str() {
             "--journals" => &mut journals,

@@ -102,55 +102,35 @@ pub const UNREADABLE: &[(&[u8], &str)] = &[
     (b"== 04", NO_STEP),
 ];
 
-/// Lines that the writer refuses in a release, with the numbers of the refusals in
-/// release 1, if there is one, and in release 2.
-pub const REFUSED: &[(&str, Option<u8>, u8)] = &[
-    ("F 1 0 4097", Some(4), 4),
-    ("F 1 0 18446744073709551616", Some(4), 4),
-    ("F 9 65536 4097", Some(4), 4),
-    ("F 1 0 4097 = ok", Some(4), 4),
-    ("F 1 0 0", None, 34),
-    ("F 1 0 0000 = ok 0 0 -", None, 34),
-    ("H 0", None, 34),
-    ("H 65535 - # -", None, 34),
-    ("W 1 0", None, 34),
-    ("W 1 0 -=ok", None, 34),
-    ("F 8 0 0", Some(6), 34),
-    ("W 18446744073709551616 0 -", Some(6), 34),
-    ("F 9 65536 0", Some(6), 34),
-    ("F 1 65536 0", Some(11), 34),
-    ("H 65536", Some(11), 34),
-    ("W 1 65536", Some(11), 34),
-    ("W 1 65536 -", Some(11), 34),
-    ("B 8", Some(6), 6),
-    ("E 8", Some(6), 6),
-    ("F 8 0 1", Some(6), 6),
-    ("F 9 0 4", Some(6), 6),
-    ("W 8 65536 00", Some(6), 6),
-    ("B 18446744073709551615", Some(6), 6),
-    ("B 18446744073709551616", Some(6), 6),
-    ("B 99999999999999999999999999999999999999", Some(6), 6),
-    ("B 8=no 6", Some(6), 6),
-    ("F 1 65536 1", Some(11), 11),
-    ("H 65536 00", Some(11), 11),
-    ("W 1 18446744073709551617 00", Some(11), 11),
+/// Lines that the writer refuses, with the number of the refusal.
+pub const REFUSED: &[(&str, u8)] = &[
+    ("F 1 0 4097", 4),
+    ("F 1 0 18446744073709551616", 4),
+    ("F 9 65536 4097", 4),
+    ("F 1 0 4097 = ok", 4),
+    ("B 8", 6),
+    ("E 8", 6),
+    ("F 9 0 4", 6),
+    ("W 8 65536 00", 6),
+    ("B 18446744073709551615", 6),
+    ("B 18446744073709551616", 6),
+    ("B 99999999999999999999999999999999999999", 6),
+    ("B 8=no 6", 6),
+    ("F 1 65536 1", 11),
+    ("H 65536 00", 11),
+    ("W 1 65536", 11),
+    ("W 1 65536 -", 11),
+    ("W 1 18446744073709551617 00", 11),
 ];
 
-/// Those that are refused in a release, with the number.
-pub fn refused(release: u64) -> impl Iterator<Item = (&'static str, u8)> {
-    REFUSED.iter().filter_map(move |(line, first, second)| {
-        let number = if release == 1 { *first } else { Some(*second) };
-        Some((*line, number?))
-    })
-}
-
-/// All cases of a release.
-pub fn cases(release: u64) -> Vec<Case> {
+/// All cases.
+pub fn cases() -> Vec<Case> {
     let unreadable = UNREADABLE
         .iter()
         .map(|(line, reason)| among_good(line, reason));
-    let refused =
-        refused(release).map(|(line, number)| among_good(line.as_bytes(), &refusal(number)));
+    let refused = REFUSED
+        .iter()
+        .map(|(line, number)| among_good(line.as_bytes(), &refusal(*number)));
     let long = [(3, 0), (4, 7)].map(|(kind, command)| {
         let step = Step {
             kind,

@@ -23,7 +23,7 @@ pub enum Wanted {
     /// This text, and nothing else.
     Text(String),
     /// A text that starts so.
-    Start(String),
+    Start(&'static str),
 }
 
 impl Wanted {
@@ -47,18 +47,11 @@ impl Case {
         }
     }
 
-    /// A case whose frames in a release, and whose text, the grammar gives.
-    pub fn of_grammar(release: u64, name: &str, input: impl Into<Vec<u8>>) -> Case {
+    /// A case whose frames and text the grammar gives.
+    pub fn of_grammar(name: &str, input: impl Into<Vec<u8>>) -> Case {
         let input = input.into();
-        let (frames, text) = expected(release, &input);
+        let (frames, text) = expected(&input);
         Case::new(name, input, &frames, &text)
-    }
-
-    /// The case with these arguments before its own.
-    pub fn called(mut self, arguments: &[&'static str]) -> Case {
-        self.arguments.splice(..0, arguments.iter().copied());
-        self.name += &format!(", called with {:?}", self.arguments);
-        self
     }
 
     /// Runs the program on the input, and says what is wrong, if anything is.

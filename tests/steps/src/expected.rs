@@ -11,9 +11,8 @@ pub const LONGEST: usize = 1 << 20;
 /// The most bytes of frames that `fetchlog` takes.
 const JOURNAL: usize = 32_768;
 
-/// The frames of the steps in a release if no line is bad, and the text on standard
-/// error.
-pub fn expected(release: u64, input: &[u8]) -> (Vec<u8>, String) {
+/// The frames of the steps if no line is bad, and the text on standard error.
+pub fn expected(input: &[u8]) -> (Vec<u8>, String) {
     if input.len() > LONGEST {
         let text = format!("framewriter: the input is above {LONGEST} bytes, nothing is written\n");
         return (vec![], text);
@@ -21,7 +20,7 @@ pub fn expected(release: u64, input: &[u8]) -> (Vec<u8>, String) {
     let (mut frames, mut count) = (vec![], 0);
     let mut complaints = vec![];
     for (line, number) in lines(input).zip(1..) {
-        match grammar::read(release, line) {
+        match grammar::read(line) {
             Line::Blank => (),
             Line::Frame(frame) => {
                 frames.extend(frame);
@@ -58,7 +57,7 @@ pub fn bad_lines(input: &[u8], count: usize) -> String {
     let hint = if is_text(input) {
         ""
     } else {
-        "framewriter: the input looks like frames; fetchlog or fetchlog2 runs frames\n"
+        "framewriter: the input looks like frames; fetchlog runs frames\n"
     };
     let lines = if count == 1 { "line" } else { "lines" };
     format!("{hint}framewriter: {count} bad {lines}, nothing is written\n")
@@ -68,7 +67,7 @@ pub fn bad_lines(input: &[u8], count: usize) -> String {
 /// before it if they are too many for `fetchlog`.
 fn sum(frames: usize, bytes: usize) -> String {
     let warning = if bytes > JOURNAL {
-        format!("framewriter: more than {JOURNAL} bytes, which fetchlog and fetchlog2 refuse\n")
+        format!("framewriter: more than {JOURNAL} bytes, which fetchlog refuses\n")
     } else {
         String::new()
     };

@@ -1,57 +1,40 @@
 //! Inputs that are run every time, with what must be written for them.
 
-use compare::fixed::worked;
-
 use crate::case::{Case, Wanted};
 use crate::expected::LONGEST;
 use crate::step::{Step, EXPECTATIONS};
 
 const WORKED_STEPS: &str = include_str!("../../../examples/worked.steps");
+const WORKED_FRAMES: &[u8] = include_bytes!("../../../examples/worked.frames");
 
-/// Arguments that the program does not take, and what is said first.
-const MISUSED: [(&[&str], &str); 13] = [
-    (&["-h"], "unknown option -h\n"),
-    (&["--nothing"], "unknown option --nothing\n"),
-    (&["-\t\\"], "unknown option -\\x09\\x5c\n"),
-    (&["--release=2"], "unknown option --release=2\n"),
-    (&["--release", "2", "-h"], "unknown option -h\n"),
-    (&["--release"], RELEASE),
-    (&["--release", ""], RELEASE),
-    (&["--release", "0"], RELEASE),
-    (&["--release", "3"], RELEASE),
-    (&["--release", "02"], RELEASE),
-    (&["--release", "12"], RELEASE),
-    (&["--release", "-"], RELEASE),
-    (&["--release", "--help"], RELEASE),
+/// Words that are no option, and what is said first.
+const ARGUMENTS: [(&str, &str); 3] = [
+    ("-h", "framewriter: unknown option -h\nusage: framewriter "),
+    (
+        "--nothing",
+        "framewriter: unknown option --nothing\nusage: framewriter ",
+    ),
+    (
+        "-\t\\",
+        "framewriter: unknown option -\\x09\\x5c\nusage: framewriter ",
+    ),
 ];
 
-/// What is said of another release than 1 and 2.
-const RELEASE: &str = "--release takes 1 or 2\n";
-
-/// All fixed cases of a release.
-pub fn cases(release: u64) -> Vec<Case> {
-    let mut cases = good(release);
-    cases.extend(lengths(release));
+/// All fixed cases.
+pub fn cases() -> Vec<Case> {
+    let mut cases = good();
     cases.extend(EXPECTATIONS.map(with_expectation));
     cases.extend(bad());
-    cases.extend([32_767, 32_768, 32_769].map(|length| journal(release, length)));
-    cases.extend([longest(release), too_long()]);
+    cases.extend([32_767, 32_768, 32_769].map(journal));
+    cases.extend([longest(), too_long()]);
+    cases.extend(ARGUMENTS.map(with_argument));
     cases
 }
 
-/// The cases about arguments.
-pub fn misused() -> Vec<Case> {
-    let named = MISUSED.map(|(arguments, complaint)| Case {
-        said: Wanted::Start(format!("framewriter: {complaint}usage: framewriter ")),
-        ..refused("a wrong argument", "B 1\n", "").called(arguments)
-    });
-    named.into()
-}
-
 /// Inputs without a bad line.
-fn good(release: u64) -> Vec<Case> {
+fn good() -> Vec<Case> {
     vec![
-        framed("the worked example", WORKED_STEPS, &worked(release), 7),
+        framed("the worked example", WORKED_STEPS, WORKED_FRAMES, 7),
         framed("the empty input", "", &[], 0),
         framed("a newline", "\n", &[], 0),
         framed("blanks and comments", " \t\r\n#\n  # B 1\n\n", &[], 0),
@@ -84,8 +67,14 @@ fn good(release: u64) -> Vec<Case> {
         framed(
             "both cases",
             "H 0 aAbBcCdDeEfF",
-            &host(release, &[0xaa, 0xbb, 0xcc, 0xdd, 0xee, 0xff]),
+            &host(&[0xaa, 0xbb, 0xcc, 0xdd, 0xee, 0xff]),
             1,
+        ),
+        framed(
+            "no data, and a dash",
+            "H 0\nH 0 -\nH 0 - # x\nH 0=ok\nH 0 -=ok",
+            &host(&[]).repeat(5),
+            5,
         ),
         framed(
             "leading zeros",
@@ -94,50 +83,6 @@ fn good(release: u64) -> Vec<Case> {
             2,
         ),
     ]
-}
-
-/// Fetches with the last three bytes of their frames, which are the lower bits of
-/// the address, the length and the spare bits, in release 1 and in release 2.
-const LENGTHS: [(&str, [u8; 3], [u8; 3]); 5] = [
-    ("F 1 0 1", [0x00, 0x00, 0x20], [0x00, 0x00, 0x00]),
-    ("F 1 0 2", [0x00, 0x00, 0x40], [0x00, 0x00, 0x40]),
-    ("F 1 0 2048", [0x01, 0x00, 0x00], [0x01, 0xff, 0xc0]),
-    ("F 1 0 4095", [0x01, 0xff, 0xe0], [0x03, 0xff, 0x80]),
-    ("F 1 0 4096", [0x02, 0x00, 0x00], [0x03, 0xff, 0xc0]),
-];
-
-/// Steps with lengths at the limits of a frame. Those without a byte have no frame
-/// in release 2.
-fn lengths(release: u64) -> Vec<Case> {
-    let mut cases = vec![];
-    for (line, first, second) in LENGTHS {
-        let [low, middle, high] = if release == 1 { first } else { second };
-        let frame = [0x24, 0x00, low, middle, high];
-        cases.push(framed(&format!("the line {line:?}"), line, &frame, 1));
-    }
-    for length in [1, 4_095, 4_096] {
-        let input = format!("H 0 {}\n", "ab".repeat(length));
-        let frame = host(release, &vec![0xab; length]);
-        cases.push(framed(
-            &format!("a write of {length} bytes"),
-            &input,
-            &frame,
-            1,
-        ));
-    }
-    let empty = "H 0\nH 0 -\nF 0 0 0\nW 0 0=ok\nW 0 0 - # x";
-    cases.push(if release == 1 {
-        let heads = [0x60, 0x60, 0x20, 0x80, 0x80].map(|kind| [kind, 0, 0, 0, 0]);
-        framed("no data, and a dash", empty, &heads.concat(), 5)
-    } else {
-        let reason = "release 2 has no fetch or write of 0 bytes (34)";
-        let lines = empty.lines().zip(1..);
-        let said =
-            lines.map(|(line, number)| format!("framewriter: line {number}: {reason}: {line}\n"));
-        let text = said.collect::<String>() + "framewriter: 5 bad lines, nothing is written\n";
-        refused("no data, and a dash", empty, &text)
-    });
-    cases
 }
 
 /// Inputs with bad lines, and all that is said of them.
@@ -162,7 +107,7 @@ fn bad() -> Vec<Case> {
             "framewriter: line 1: a field too many: B 1\\x092\\x0d\n\
              framewriter: line 2: not a decimal number: B \\x5c\n\
              framewriter: line 3: not a decimal number: B ~\\x7f\\x00\\x1b\n\
-             framewriter: the input looks like frames; fetchlog or fetchlog2 runs frames\n\
+             framewriter: the input looks like frames; fetchlog runs frames\n\
              framewriter: 3 bad lines, nothing is written\n",
         ),
         refused(
@@ -212,29 +157,29 @@ fn begin_end() -> Vec<u8> {
 }
 
 /// The frame of a host write at address 0.
-fn host(release: u64, data: &[u8]) -> Vec<u8> {
+fn host(data: &[u8]) -> Vec<u8> {
     let step = Step {
         kind: 3,
         data: data.to_vec(),
         ..Step::default()
     };
-    step.frame(release).expect("a write of a byte has a frame")
+    step.frame().expect("a short write has a frame")
 }
 
 /// What is said before the last line of frames that `fetchlog` does not take.
-const WARNING: &str = "framewriter: more than 32768 bytes, which fetchlog and fetchlog2 refuse\n";
+const WARNING: &str = "framewriter: more than 32768 bytes, which fetchlog refuses\n";
 
 /// Begins, and a host write that makes their frames so many bytes long.
-fn journal(release: u64, length: usize) -> Case {
+fn journal(length: usize) -> Case {
     let (begins, more) = (length / 5 - 1, length % 5);
     let data = vec![0xab; more];
     let input = "B 0\n".repeat(begins) + "H 0 " + &"ab".repeat(more) + "\n";
-    let frames = [vec![0; 5 * begins], host(release, &data)].concat();
+    let frames = [vec![0; 5 * begins], host(&data)].concat();
     framed(&format!("{length} bytes"), &input, &frames, begins + 1)
 }
 
 /// Writes of 4,096 bytes up to the longest input, and a comment at its end.
-fn longest(release: u64) -> Case {
+fn longest() -> Case {
     let data: Vec<u8> = (0..4_096).map(|place| (place * 7) as u8).collect();
     let step = Step {
         kind: 4,
@@ -244,9 +189,7 @@ fn longest(release: u64) -> Case {
         ..Step::default()
     };
     let line = step.plain_line() + "\n";
-    let frame = step
-        .frame(release)
-        .expect("a write of 4,096 bytes has a frame");
+    let frame = step.frame().expect("a write of 4,096 bytes has a frame");
     let count = LONGEST / line.len();
     let mut input = line.repeat(count);
     input += &"#".repeat(LONGEST - input.len());
@@ -258,4 +201,13 @@ fn too_long() -> Case {
     let input = "B 1\n".repeat(LONGEST / 4) + "\n";
     let text = "framewriter: the input is above 1048576 bytes, nothing is written\n";
     refused("an input that is too long", &input, text)
+}
+
+/// Given a word that is no option the program says so and how it is used.
+fn with_argument((argument, start): (&'static str, &'static str)) -> Case {
+    Case {
+        arguments: vec![argument],
+        said: Wanted::Start(start),
+        ..refused(&format!("the argument {argument:?}"), "B 1\n", "")
+    }
 }

@@ -37,14 +37,14 @@ pub enum Line {
     Bad(String),
 }
 
-/// Reads a line, which is given without its newline, for frames of a release.
-pub fn read(release: u64, line: &[u8]) -> Line {
+/// Reads a line, which is given without its newline.
+pub fn read(line: &[u8]) -> Line {
     let step = match step_of(line) {
         Ok(Some(step)) => step,
         Ok(None) => return Line::Blank,
         Err(reason) => return Line::Bad(reason.to_string()),
     };
-    match step.frame(release) {
+    match step.frame() {
         Ok(frame) => Line::Frame(frame),
         Err(number) => Line::Bad(refusal(number)),
     }
@@ -56,7 +56,6 @@ pub fn refusal(number: u8) -> String {
         4 => "the length is above 4096",
         6 => "the command is above 7",
         11 => "the address is above 65535",
-        34 => "release 2 has no fetch or write of 0 bytes",
         _ => panic!("the writer refuses no line with {number}"),
     };
     format!("{words} ({number})")

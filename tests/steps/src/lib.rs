@@ -1,5 +1,5 @@
 //! Holds a program that turns readable steps into frames against the grammar
-//! of steps and the reference's writer of frames, in both releases of these.
+//! of steps and the reference's writer of frames.
 //!
 //! What must be written:
 //! - [`step`]: one step, its frame by the reference, and ways to write it down.
@@ -12,7 +12,6 @@
 //! - [`fixed`]: inputs that are run every time.
 //! - [`bad`]: lines without a frame, each with the reason that must be given.
 //! - [`case`]: one input with what the program must write for it.
-//! - [`ways`]: the ways to call the program, and all cases of each.
 //! - [`arguments`]: what the command line can ask for.
 
 pub mod arguments;
@@ -24,4 +23,3 @@ pub mod grammar;
 pub mod quoted;
 pub mod random;
 pub mod step;
-pub mod ways;

@@ -7,8 +7,7 @@ use std::process::ExitCode;
 
 use sampling::arguments::{status, Arguments};
 use steps::arguments::{OPTIONS, USAGE};
-use steps::fixed;
-use steps::ways::WAYS;
+use steps::{bad, fixed, random};
 
 fn main() -> ExitCode {
     let arguments = Arguments::parse(env::args_os().skip(1), OPTIONS);
@@ -19,8 +18,8 @@ fn main() -> ExitCode {
 fn run(arguments: &Arguments<2>) -> io::Result<u64> {
     let program = path::absolute(&arguments.program)?;
     let [files, seed] = arguments.numbers;
-    let by_release = WAYS.iter().flat_map(|way| way.cases(files, seed));
-    let cases = by_release.chain(fixed::misused());
+    let files = (0..files).map(|place| random::case(seed.wrapping_add(place)));
+    let cases = fixed::cases().into_iter().chain(bad::cases()).chain(files);
     let (mut passed, mut failed) = (0, 0);
     for case in cases {
         match case.put_to(&program)? {

@@ -35,15 +35,14 @@ pub struct Step {
 }
 
 impl Step {
-    /// The bytes of the frame in a release, or the number of the refusal.
-    pub fn frame(&self, release: u64) -> Result<Vec<u8>, u8> {
+    /// The bytes of the frame, or the number of the refusal.
+    pub fn frame(&self) -> Result<Vec<u8>, u8> {
         let length = match self.kind {
             3 | 4 => self.data.len() as u64,
             _ => self.length,
         };
         let mut output = vec![0; 5 + self.data.len()];
         let size = write_frame(
-            release,
             self.kind,
             self.command,
             self.address,

@@ -6,11 +6,10 @@ use std::path::PathBuf;
 use std::process::{Command, Output};
 
 use sampling::arguments::Arguments;
-use sampling::layout::RELEASES;
 use steps::arguments::OPTIONS;
 use steps::case::{Case, Wanted};
-use steps::ways::WAYS;
-use steps::{bad, grammar, random};
+use steps::grammar;
+use steps::{bad, random};
 
 fn run(words: &[&str]) -> Output {
     Command::new(env!("CARGO_BIN_EXE_steps"))
@@ -52,35 +51,13 @@ fn text_of(case: &Case) -> &str {
 
 #[test]
 fn the_file_of_a_seed_is_always_the_same() {
-    for release in RELEASES {
-        let files = [7, 7].map(|seed| random::case(release, seed).input);
-        assert_eq!(files[0], files[1]);
-        assert!(bad::cases(release).len() > 100);
-    }
-}
-
-#[test]
-fn each_way_asks_for_its_release() {
-    for way in &WAYS {
-        let release = way.release.to_string();
-        for case in way.cases(1, 0) {
-            let arguments: Vec<&str> = case.arguments;
-            let named = ["--release", release.as_str()];
-            assert!(arguments == named || arguments.is_empty() && way.release == 1);
-        }
-    }
-    let named = WAYS.iter().map(|way| (way.release, way.arguments.len()));
-    assert_eq!(named.collect::<Vec<_>>(), [(1, 0), (1, 2), (2, 2)]);
+    assert_eq!(random::case(7).input, random::case(7).input);
+    assert!(bad::cases().len() > 100);
 }
 
 #[test]
 fn random_files_have_every_fault_and_several_in_one_file() {
-    have_every_fault(1, &[4, 6, 11]);
-    have_every_fault(2, &[4, 6, 11, 34]);
-}
-
-fn have_every_fault(release: u64, refusals: &[u8]) {
-    let cases: Vec<Case> = (0..1_000).map(|seed| random::case(release, seed)).collect();
+    let cases: Vec<Case> = (0..1_000).map(random::case).collect();
     let count = |wanted: &dyn Fn(&str) -> bool| {
         let texts = cases.iter().map(text_of);
         texts.filter(|text| wanted(text)).count()
@@ -89,19 +66,17 @@ fn have_every_fault(release: u64, refusals: &[u8]) {
         let count = count(&|text| text.contains(&format!(": {reason}: ")));
         assert!(count > 5, "{reason}: {count}");
     }
-    for number in refusals {
-        let reason = grammar::refusal(*number);
+    for number in [4, 6, 11] {
+        let reason = grammar::refusal(number);
         let count = count(&|text| text.contains(&format!(": {reason}: ")));
         assert!(count > 20, "{reason}: {count}");
     }
-    let without_length = count(&|text| text.contains(" (34): "));
-    assert_eq!(without_length > 0, release == 2);
     let several = count(&|text| text.lines().count() > 4);
     assert!(several > 200, "{several}");
     let good = count(&|text| text.ends_with(" bytes\n"));
     assert!((450..700).contains(&good), "{good}");
     let long = count(&|text| text.contains("more than 32768 bytes"));
-    assert!(long > 15, "{long}");
+    assert!(long > 20, "{long}");
     let cut = count(&|text| text.contains("...\n"));
     assert!(cut > 50, "{cut}");
 }

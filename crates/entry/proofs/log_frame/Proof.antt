@@ -34,7 +34,7 @@ module _ (shown : tie.After-put-line-arg2) where
 slice-aggregate-put-line : tie.Need-slice-aggregate-put-line
 slice-aggregate-put-line c =
     let done = (carried c).carry-out in
-    sym (length-take-le done.result.delivered done.last.1.1.1.1.1.0 done.ensures.within)
+    sym (length-take-le done.result.delivered done.last.1.1.1.1.0 done.ensures.within)
 
 returns : tie.Need-returns
 returns c =

@@ -10,10 +10,10 @@ use Rattle.framewriter.proofs.write_frames.Statement.{statement}
 use Rattle.framewriter.proofs.write_frames.Tie as tie
 
 abbrev invariant_loop : tie.invariant-loop
-invariant_loop _ input buffer₀ frame₀ kept₀ at₀ buffer frame kept at = (kept ≤ at) × (at ≤ length input) × (length buffer ≡ 4096) × (length frame ≡ 4101)
+invariant_loop input buffer₀ frame₀ kept₀ at₀ buffer frame kept at = (kept ≤ at) × (at ≤ length input) × (length buffer ≡ 4096) × (length frame ≡ 4101)
 
 abbrev decreases_loop : tie.decreases-loop
-decreases_loop _ input buffer₀ frame₀ kept₀ at₀ buffer frame kept at = length input - at
+decreases_loop input buffer₀ frame₀ kept₀ at₀ buffer frame kept at = length input - at
 
 -- where a line ends
 module _ (u : tie.After-until invariant_loop decreases_loop) where

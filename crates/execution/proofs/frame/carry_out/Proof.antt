@@ -11,7 +11,7 @@ returns : tie.Need-returns
 returns c =
     let read = c.before.before.before in
     let a = read.before.before.before.before.before.args in
-    carries_unreadable a.release a.state.now a.store.now a.window.now a.destination.now a.frame.now _
+    carries_unreadable a.state.now a.store.now a.window.now a.destination.now a.frame.now _
     (says_of read_reply read.read.ensures c.before.reading.given.1)
 
 -- the call was made
@@ -35,7 +35,7 @@ returns-2 : tie.Need-returns-2
 returns-2 c =
     let a = (start c).args in
     let parsed = (reading c).reading2.given.0.0 in
-    carries_step a.release (device_of a.state.now a.store.now a.window.now a.destination.now) a.frame.now parsed.consumed parsed.step
+    carries_step (device_of a.state.now a.store.now a.window.now a.destination.now) a.frame.now parsed.consumed parsed.step
     (says_of read_reply (read c).read.ensures (reading c).reading2.given.1) _ (bytes c).data.ensures c.letter.ensures (made c).make.ensures
 
 pub carry_out_spec : {M : Type 1} → statement M

@@ -8,11 +8,11 @@ use Rattle.explain.proofs.run.explain.Statement.{statement}
 use Rattle.explain.proofs.run.explain.Tie as tie
 
 abbrev invariant_loop : tie.invariant-loop
-invariant_loop _ by_lines input state₀ store₀ window₀ destination₀ frame₀ line₀ tally₀ place₀ at₀ state store window destination frame line tally place at =
+invariant_loop by_lines input state₀ store₀ window₀ destination₀ frame₀ line₀ tally₀ place₀ at₀ state store window destination frame line tally place at =
     (at ≤ length input) × (length store ≡ 32768) × (length window ≡ 16384) × (length destination ≡ 4096) × (length frame ≡ 4101) × (length line ≡ 16384)
 
 abbrev decreases_loop : tie.decreases-loop
-decreases_loop _ by_lines input state₀ store₀ window₀ destination₀ frame₀ line₀ tally₀ place₀ at₀ state store window destination frame line tally place at =
+decreases_loop by_lines input state₀ store₀ window₀ destination₀ frame₀ line₀ tally₀ place₀ at₀ state store window destination frame line tally place at =
     length input - at
 
 pub explain_spec : {M : Type 1} → statement M

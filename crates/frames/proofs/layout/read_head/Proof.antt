@@ -1,5 +1,6 @@
 -- The two steps are those of the definition.
 use borrow.Author.Rules.{rules}
+use Rattle.frames.specs.Layout.{fields_of}
 use Rattle.frames.proofs.layout.read_head.Statement.{statement}
 use Rattle.frames.proofs.layout.read_head.Tie as tie
 
@@ -10,6 +11,7 @@ fields-requires : tie.Need-fields-requires
 fields-requires c κs = search rules
 
 returns : tie.Need-returns
+unfolding fields_of
 returns c = rw (c.fields.ensures, c.before.number.ensures)
 
 pub read_head_spec : {M : Type 1} → statement M

@@ -13,7 +13,7 @@ use Rattle.state.specs.declared.refusal.Refusal.{Refusal}
 use Rattle.state.specs.declared.refusal.Refusal.TheVariants.{FrameTooShort, UnknownKind, FieldNotZero, LengthTooLong, DataMismatch}
 use Rattle.state.specs.declared.refusal.Refusal.TheVariants.{CommandTooHigh, WindowTooLong, StoreWrongSize, OutsideWindow, BufferTooShort, AddressTooHigh}
 use Rattle.state.specs.declared.refusal.Refusal.TheVariants.{StateBroken, CommandNotOpen, CommandAlreadyOpen, TooManyBytes, TooManyRecords, NoSuchRecord, WindowBeyondMap}
-use Rattle.state.specs.declared.refusal.Refusal.TheVariants.{TransferOutOfRange, EntryMisaligned, UnknownRelease, LengthZero}
+use Rattle.state.specs.declared.refusal.Refusal.TheVariants.{TransferOutOfRange, EntryMisaligned}
 use Rattle.reasons.specs.Reasons.{reason, padded}
 use Rattle.reasons.specs.Padding.{filled}
 use Rattle.text.proofs.Putting.{puts_is}
@@ -54,8 +54,6 @@ words NoSuchRecord = refl
 words WindowBeyondMap = refl
 words TransferOutOfRange = refl
 words EntryMisaligned = refl
-words UnknownRelease = refl
-words LengthZero = refl
 
 -- the reason got, and how long it is
 module _ (c : tie.After-filled) where

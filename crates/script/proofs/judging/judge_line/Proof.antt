@@ -13,8 +13,8 @@ module _ (made : tie.After-frame-of) where
   abbrev start : tie.Start
   start = made.before.before.before.before.before.before.before
 
-  line_says_lem : framed_says made.frame-of.result ≡ line_says start.args.release start.args.line.now
-  line_says_lem = made.frame-of.ensures.0.says ∙ said start.args.release start.args.line.now _ start.args.frame.now (omega arith) (omega arith)
+  line_says_lem : framed_says made.frame-of.result ≡ line_says start.args.line.now
+  line_says_lem = made.frame-of.ensures.0.says ∙ said start.args.line.now _ start.args.frame.now (omega arith) (omega arith)
 
 returns : tie.Need-returns
 returns c =

@@ -16,13 +16,13 @@ use Rattle.script.proofs.judging.judge_lines.Statement.{statement}
 use Rattle.script.proofs.judging.judge_lines.Tie as tie
 
 abbrev invariant_loop : tie.invariant-loop
-invariant_loop release program input buffer₀ frame₀ bad₀ frames₀ bytes₀ number₀ at₀ buffer frame bad frames bytes number at =
-    (plus (judged bad frames bytes) (judged_of release (drop at input)) ≡ judged_of release input)
+invariant_loop program input buffer₀ frame₀ bad₀ frames₀ bytes₀ number₀ at₀ buffer frame bad frames bytes number at =
+    (plus (judged bad frames bytes) (judged_of (drop at input)) ≡ judged_of input)
     × (number ≤ at) × (at ≤ length input + 1) × (length input ≤ 1048576) × (bad ≤ number) × (frames ≤ number) × (bytes ≤ 4101 * number)
     × (length buffer ≡ 4096) × (length frame ≡ 4101)
 
 abbrev decreases_loop : tie.decreases-loop
-decreases_loop release program input buffer₀ frame₀ bad₀ frames₀ bytes₀ number₀ at₀ buffer frame bad frames bytes number at = length input + 1 - at
+decreases_loop program input buffer₀ frame₀ bad₀ frames₀ bytes₀ number₀ at₀ buffer frame bad frames bytes number at = length input + 1 - at
 
 loop-holds : tie.Need-loop-init invariant_loop decreases_loop
 loop-holds c = (plus_none _, omega arith, omega arith, c.before.before.requires, omega arith, omega arith, omega arith, refl, refl)
@@ -50,7 +50,7 @@ module _ (j : tie.After-judge-line invariant_loop decreases_loop) where
   u = j.before.before.before.before
 
   small : Small 4101 j.judge-line.result
-  small = rw j.judge-line.ensures (line_small _ _)
+  small = rw j.judge-line.ensures (line_small _)
 
 add-bad : tie.Need-overflow-add-bad invariant_loop decreases_loop
 add-bad c = let j = c.before.before.before in omega (arith, (small j).bad, ends (u j), behind (u j))
@@ -70,7 +70,7 @@ loop-again c =
     let j = added c in
     let w = u j in
     let k = (l w).loop in (
-      one_more (l w).before.before.before.args.release (input w) k.at w.until.result (judged k.bad k.frames k.bytes) j.judge-line.result
+      one_more (input w) k.at w.until.result (judged k.bad k.frames k.bytes) j.judge-line.result
           w.before.loop-test.taken w.until.ensures j.judge-line.ensures k.inv.0,
       omega (arith, behind w),
       omega (arith, ends w),
@@ -86,7 +86,7 @@ returns : tie.Need-returns invariant_loop decreases_loop
 returns c =
     let s = c.before.before.before.before in
     let k = c.before.loop in
-    sym (none_left s.args.release s.args.input.now k.at (judged k.bad k.frames k.bytes) (omega (arith, c.loop-test.false))) ∙ k.invariant.0
+    sym (none_left s.args.input.now k.at (judged k.bad k.frames k.bytes) (omega (arith, c.loop-test.false))) ∙ k.invariant.0
 
 pub judge_lines_spec : {M : Type 1} → statement M
 judge_lines_spec =

@@ -1,17 +1,13 @@
-// A journal of a release is run. The line of each frame is made whole at the front of a buffer and written to standard output.
+// A journal is run. The line of each frame is made whole at the front of a buffer and written to standard output.
 ghost use Rattle.std.specs.Prelude.{◌≡◌, cond, ◌+◌, ◌-◌, ◌≤◌, ◌<◌, ◌^◌, length};
 ghost use Rattle.device.specs.Step.{device_of};
-ghost use Rattle.printlog.specs.Print.{Shows, Prints};
+ghost use Rattle.fetchlog.specs.Print.{Shows, Prints};
 
-use entry::log_frame;
 use numbers::one_if;
 use state::CacheState;
 
 // Room for the longest line.
 pub(crate) const LINE: usize = 8448;
-
-// Where a line is put.
-const FRONT: usize = 0;
 
 // How many bytes a frame took up (none if it is unreadable), whether it was accepted, how many bytes its line has, and whether all of
 // them were written.
@@ -35,8 +31,6 @@ pub struct Printed {
 }
 
 fn print_frame(
-    program: &[u8],
-    release: usize,
     number: usize,
     frame: &[u8],
     state: &mut [u16; CacheState::WORDS],
@@ -47,25 +41,15 @@ fn print_frame(
     wanted: bool,
 ) -> Shown
     requires { length line.old ≡ 8448 }
-    ensures { Shows release (device_of state.old store.old window.old destination.old) number frame.now line.old result state.new store.new window.new destination.new line.new }
+    ensures { Shows (device_of state.old store.old window.old destination.old) number frame.now line.old result state.new store.new window.new destination.new line.new }
 {
-    let logged = log_frame(
-        release,
-        number,
-        frame,
-        state,
-        store,
-        window,
-        destination,
-        line,
-        FRONT,
-    );
+    let logged = entry::log_frame(number, frame, state, store, window, destination, line, 0);
     let size = logged.next;
     Shown {
         taken: logged.taken,
         accepted: logged.accepted,
         size,
-        kept: console::tell_if(wanted, program, line, size),
+        kept: console::tell_if(wanted, b"fetchlog", line, size),
     }
 }
 
@@ -85,8 +69,6 @@ fn summed(read: usize, carried: usize, early: bool, kept: usize) -> Printed
 
 // Every frame is carried out, also when lines are no longer written.
 pub(crate) fn print_log(
-    program: &[u8],
-    release: usize,
     input: &[u8],
     state: &mut [u16; CacheState::WORDS],
     store: &mut [u8],
@@ -95,7 +77,7 @@ pub(crate) fn print_log(
     line: &mut [u8],
 ) -> Printed
     requires { length line.old ≡ 8448 }
-    ensures { Prints release (device_of state.old store.old window.old destination.old) input.now result state.new store.new window.new destination.new }
+    ensures { Prints (device_of state.old store.old window.old destination.old) input.now result state.new store.new window.new destination.new }
 {
     let mut at = 0;
     let mut number = 0;
@@ -103,8 +85,6 @@ pub(crate) fn print_log(
     let mut kept = 0;
     while at < input.len() {
         let r = print_frame(
-            program,
-            release,
             number + 1,
             &input[at..],
             state,

@@ -1,5 +1,5 @@
 -- The line fits the buffer, so that all of it stands there.
-use Prim.Native.Nat.{ℕ, ◌-◌, ◌≤◌}
+use Prim.Native.Nat.{ℕ, ◌-◌, ◌≤◌, ◌<◌, ◌^◌}
 use native.Mathlib.Omega.{arith}
 use mathlib.Core.Path.{◌≡◌}
 use mathlib.Core.List.{List}
@@ -10,13 +10,13 @@ use Rattle.log.specs.Line.{line_of}
 use Rattle.device.specs.Step.{Device, device_of}
 use Rattle.device.specs.Frame.{letter_of, frame_says, frame_delivers}
 use Rattle.journal.proofs.Fits.{line_fits}
-use Rattle.printlog.proofs.printing.print_frame.Statement.{statement}
-use Rattle.printlog.proofs.printing.print_frame.Tie as tie
+use Rattle.fetchlog.proofs.printing.print_frame.Statement.{statement}
+use Rattle.fetchlog.proofs.printing.print_frame.Tie as tie
 
 -- where the line was made
 module _ (g : tie.After-log-frame) where
   abbrev start : tie.Start
-  start = g.before.before.before.before.before.before.before.before.before.before.before.before
+  start = g.before.before.before.before.before.before.before.before.before.before.before
 
   abbrev frame : List ℕ
   frame = start.args.frame.now
@@ -28,17 +28,17 @@ module _ (g : tie.After-log-frame) where
   d = device_of start.args.state.now start.args.store.now start.args.window.now start.args.destination.now
 
   abbrev text : List ℕ
-  text = let r = start.args.release in line_of start.args.number (letter_of r frame) (frame_says r d frame) (frame_delivers r d frame)
+  text = line_of start.args.number (letter_of frame) (frame_says d frame) (frame_delivers d frame)
 
   fits : length text ≤ length line
-  fits = omega (arith, line_fits start.args.release d frame start.args.number (omega (arith, start.fits.number.fits)), start.pre)
+  fits = omega (arith, line_fits d frame start.args.number (omega (arith, start.fits.number.fits)), start.pre)
 
   all_of_it : take (length line - 0) text ≡ text
   all_of_it = take_all (length line - 0) text (omega (arith, fits))
 
 returns : tie.Need-returns
 returns c =
-    let g = c.before.before.before.before.before.before.before.before.before.before in
+    let g = c.before.before.before.before.before.before.before.before.before.before.before in
     let made = g.log-frame.ensures in
     record {
       taken = made.taken;
@@ -53,6 +53,7 @@ print_frame_spec =
     tie.close
     (tie.spec
     (λ c κs. search rules)
+    (λ c. search rules)
     (λ c κs. search rules)
     (λ c. search rules)
     (λ c. search rules)
