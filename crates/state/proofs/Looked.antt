@@ -50,7 +50,7 @@ module _ (e : ℕ) where
   up_to_exactly : (lo : ℕ) (rs : List Record) → ascending lo rs ≡ true → looked_up_to e rs ≡ min (suc (starting_up_to e rs)) (length rs)
   unfolding looked_up_to
   up_to_exactly lo [] up = omega arith
-  up_to_exactly lo (r ∷ rs) up = let u = ascends lo r rs up in go (starts e r) u.rest (up_to_exactly _ rs u.rest)
+  up_to_exactly lo (r ∷ rs) up = let u = ascends lo r rs up in go (starts e r) u.rest (up_to_exactly (suc (past r)) rs u.rest)
     where
       go : Starts e r → ascending (suc (past r)) rs ≡ true → looked_up_to e rs ≡ min (suc (starting_up_to e rs)) (length rs)
           → looked_up_to e (r ∷ rs) ≡ min (suc (starting_up_to e (r ∷ rs))) (length (r ∷ rs))
