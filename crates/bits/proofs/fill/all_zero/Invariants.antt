@@ -1,0 +1,14 @@
+-- What is joined so far and the words still to come are all zero just if all words are.
+use Prim.Native.Nat.{◌-◌}
+use mathlib.Core.Path.{◌≡◌}
+use mathlib.Core.Bool.{◌&&◌}
+use lib.Dec.{eqb}
+use lib.ListN.{length, drop}
+use Rattle.octets.specs.Lists.{all_zero}
+use Rattle.bits.proofs.fill.all_zero.Given as goal
+
+abbrev pub invariant-loop-i : goal.invariant-loop-i
+invariant-loop-i l = (eqb l.or 0 && all_zero (drop l.i l.words)) ≡ all_zero l.words
+
+abbrev pub decreases-loop-i : goal.decreases-loop-i
+decreases-loop-i l = length l.words - l.i
