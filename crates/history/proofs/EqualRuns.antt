@@ -58,7 +58,9 @@ module _ {A B : Type 0} (f : Memory → Deed → A) (g : Memory → Deed → B) 
       let agree : accepted (says k q) ≡ ok = ap accepted (sym (says_alike T A)) in
       let here = rw agree at e in
       let (remembered, head) = carries (deed_of ok p) (deed_of ok q) mem (view ok A) (cons_head here) in
-      rw (agree, ← remembered) (ap₂ ◌∷◌ head (carried {m = after m p} {k = after k q} (remember mem (deed_of ok p)) (twin_after T A) As (rw (← remembered) at (cons_tail here))))
+      rw (agree, ← remembered)
+      (ap₂ ◌∷◌ head
+      (carried {m = after m p} {k = after k q} (remember mem (deed_of ok p)) (twin_after T A) As (rw (← remembered) at (cons_tail here))))
 
 owed_carries : Carries owed_by firsts_by
 unfolding owed_by firsts_by
@@ -127,7 +129,8 @@ stores_equal {m} {k} mem is S (next {p} {q} {ps} {qs} A As) e =
     let (remembered, head) = firsts_carry (deed_of ok p) (deed_of ok q) mem (view ok A) (cons_head here) in
     let stores : store_after m p ≡ store_after k q = stores_alike mem ok S A refl (cons_head here) ∙ ap (λ (j : Machine). store_after j q) is in
     ap₂ ◌∷◌ stores
-    (stores_equal {m = after m p} {k = after k q} (remember mem (deed_of ok p)) (λ i. record { state = state_alike (twin is) A i; store = stores i }) (sound_after m mem p ok refl S) As
+    (stores_equal {m = after m p} {k = after k q} (remember mem (deed_of ok p))
+    (λ i. record { state = state_alike (twin is) A i; store = stores i }) (sound_after m mem p ok refl S) As
     (rw (← remembered) at (cons_tail here)))
 
 -- The rule, of equal lengths
