@@ -1,11 +1,11 @@
 -- Case by case.
 use mathlib.Core.Path.{ap, sym}
 use Rattle.state.specs.Verdict.{accepted}
-use Rattle.log.specs.declared.line.Answer.{Answer}
-use Rattle.log.specs.Line.{answer_reply}
+use Rattle.loglines.specs.declared.line.Answer.{Answer}
+use Rattle.loglines.specs.Line.{answer_reply}
 use borrow.Author.Rules.{rules}
-use Rattle.log.proofs.line.is_accepted.Statement.{statement}
-use Rattle.log.proofs.line.is_accepted.Tie as tie
+use Rattle.loglines.proofs.line.is_accepted.Statement.{statement}
+use Rattle.loglines.proofs.line.is_accepted.Tie as tie
 
 returns : tie.Need-returns
 unfolding accepted

@@ -1,9 +1,9 @@
 -- The parts of a line are put one behind the other.
 use borrow.Author.Rules.{rules}
-use Rattle.log.specs.Line.{spaced, line_of}
+use Rattle.loglines.specs.Line.{spaced, line_of}
 use Rattle.text.proofs.Putting.{puts_both}
-use Rattle.log.proofs.line.put_line.Statement.{statement}
-use Rattle.log.proofs.line.put_line.Tie as tie
+use Rattle.loglines.proofs.line.put_line.Statement.{statement}
+use Rattle.loglines.proofs.line.put_line.Tie as tie
 
 put-decimal-requires : tie.Need-put-decimal-requires
 put-decimal-requires c κs = search rules

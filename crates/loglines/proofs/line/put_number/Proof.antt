@@ -1,8 +1,8 @@
 -- The blank is put, and the number behind it.
 use borrow.Author.Rules.{rules}
 use Rattle.text.proofs.Putting.{puts_both}
-use Rattle.log.proofs.line.put_number.Statement.{statement}
-use Rattle.log.proofs.line.put_number.Tie as tie
+use Rattle.loglines.proofs.line.put_number.Statement.{statement}
+use Rattle.loglines.proofs.line.put_number.Tie as tie
 
 put-byte-requires : tie.Need-put-byte-requires
 put-byte-requires c κs = search rules

@@ -7,16 +7,16 @@ use denote.Enum.Declared.{tag_of}
 use borrow.Author.Rules.{rules}
 use Rattle.state.specs.declared.refusal.Refusal.{Refusal}
 use Rattle.state.specs.Refusals.{number}
-use Rattle.log.specs.declared.line.Answer.{Answer}
-use Rattle.log.specs.declared.line.Answer.TheVariants.{Done, Count, Counts, Fetched, Refused}
+use Rattle.loglines.specs.declared.line.Answer.{Answer}
+use Rattle.loglines.specs.declared.line.Answer.TheVariants.{Done, Count, Counts, Fetched, Refused}
 use Rattle.octets.specs.Text.{ascii, Puts}
 use Rattle.text.specs.Decimal.{decimal}
 use Rattle.state.specs.Verdict.{Reply, numbers_of, without_looked}
-use Rattle.log.specs.Line.{answer_reply, delivered_fields, answer_fields, spaced}
+use Rattle.loglines.specs.Line.{answer_reply, delivered_fields, answer_fields, spaced}
 use Rattle.text.proofs.Putting.{puts_is, puts_both}
-use Rattle.log.specs.contracts.line.Answer.{the_type}
-use Rattle.log.proofs.line.put_answer.Statement.{statement}
-use Rattle.log.proofs.line.put_answer.Tie as tie
+use Rattle.loglines.specs.contracts.line.Answer.{the_type}
+use Rattle.loglines.proofs.line.put_answer.Statement.{statement}
+use Rattle.loglines.proofs.line.put_answer.Tie as tie
 
 -- fields behind others
 spaced_both : (xs ys : List (List ℕ)) → spaced (xs ++ ys) ≡ spaced xs ++ spaced ys

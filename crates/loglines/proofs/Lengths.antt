@@ -9,7 +9,7 @@ use lib.ListN.{length, length-append}
 use Rattle.state.specs.Verdict.{Reply, refused, replied, without_looked}
 use Rattle.octets.specs.Text.{ascii}
 use Rattle.text.specs.Decimal.{decimal}
-use Rattle.log.specs.Line.{fetch_letter, shown, delivered_fields, answer_fields, spaced, line_of}
+use Rattle.loglines.specs.Line.{fetch_letter, shown, delivered_fields, answer_fields, spaced, line_of}
 use Rattle.text.proofs.Digits.{decimal_short}
 use Rattle.text.proofs.Pairs.{length_hex}
 

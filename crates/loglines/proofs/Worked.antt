@@ -9,7 +9,7 @@ use Rattle.kinds.specs.Table.{kind_of}
 use Rattle.octets.specs.Text.{ascii}
 use Rattle.text.specs.Decimal.{digits, decimal}
 use Rattle.text.specs.Hexadecimal.{hex_digits, hexadecimal}
-use Rattle.log.specs.Line.{fetch_letter, delivered_fields, answer_fields, spaced, line_of, too_long}
+use Rattle.loglines.specs.Line.{fetch_letter, delivered_fields, answer_fields, spaced, line_of, too_long}
 
 worked :
     line_of 1 (code "B") (replied []) []

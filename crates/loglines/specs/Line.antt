@@ -3,8 +3,8 @@ use Rattle.std.specs.Prelude.{ℕ, List, [], ◌∷◌, ◌++◌, map, cond, eqb
 use Prim.Native.Char.{code}
 use Rattle.state.specs.Refusals.{number}
 use Rattle.state.specs.Verdict.{Reply, refused, replied, without_looked}
-use Rattle.log.specs.declared.line.Answer.{Answer}
-use Rattle.log.specs.declared.line.Answer.TheVariants.{Done, Count, Counts, Fetched, Refused}
+use Rattle.loglines.specs.declared.line.Answer.{Answer}
+use Rattle.loglines.specs.declared.line.Answer.TheVariants.{Done, Count, Counts, Fetched, Refused}
 use Rattle.octets.specs.Text.{ascii}
 use Rattle.text.specs.Decimal.{decimal}
 use Rattle.text.specs.Hexadecimal.{hexadecimal}

@@ -5,16 +5,16 @@ use mathlib.Core.List.{List, [], ◌∷◌, ◌++◌, append-nil, map}
 use types.Run.{OneOf, miss}
 use denote.Enum.Declared.{tag_of}
 use borrow.Author.Rules.{rules}
-use Rattle.log.specs.declared.line.Answer.{Answer}
-use Rattle.log.specs.declared.line.Answer.TheVariants.{Done, Count, Counts, Fetched, Refused}
+use Rattle.loglines.specs.declared.line.Answer.{Answer}
+use Rattle.loglines.specs.declared.line.Answer.TheVariants.{Done, Count, Counts, Fetched, Refused}
 use Rattle.octets.specs.Text.{ascii}
 use Rattle.text.specs.Decimal.{decimal}
 use Rattle.state.specs.Verdict.{numbers_of, without_looked}
-use Rattle.log.specs.Line.{answer_reply, spaced}
+use Rattle.loglines.specs.Line.{answer_reply, spaced}
 use Rattle.text.proofs.Putting.{puts_is}
-use Rattle.log.specs.contracts.line.Answer.{the_type}
-use Rattle.log.proofs.line.put_numbers.Statement.{statement}
-use Rattle.log.proofs.line.put_numbers.Tie as tie
+use Rattle.loglines.specs.contracts.line.Answer.{the_type}
+use Rattle.loglines.proofs.line.put_numbers.Statement.{statement}
+use Rattle.loglines.proofs.line.put_numbers.Tie as tie
 
 abbrev text : Answer → List ℕ
 text answer = spaced (map decimal (numbers_of (without_looked (answer_reply answer))))

@@ -3,7 +3,7 @@ ghost use Rattle.std.specs.Prelude.{◌≡◌, ◌++◌, map};
 ghost use Rattle.state.specs.Verdict.{accepted, numbers_of, without_looked};
 ghost use Rattle.octets.specs.Text.{ascii, Puts};
 ghost use Rattle.text.specs.Decimal.{decimal};
-ghost use Rattle.log.specs.Line.{answer_reply, delivered_fields, answer_fields, spaced, line_of, too_long};
+ghost use Rattle.loglines.specs.Line.{answer_reply, delivered_fields, answer_fields, spaced, line_of, too_long};
 
 use octets::put;
 use state::Refusal;

@@ -8,10 +8,10 @@ use borrow.Author.Tests.{eq-eqb, ne_eqb}
 use borrow.Author.Rules.{rules}
 use Rattle.octets.specs.Text.{ascii, Puts}
 use Rattle.text.specs.Hexadecimal.{hexadecimal}
-use Rattle.log.specs.Line.{fetch_letter, delivered_fields, spaced}
+use Rattle.loglines.specs.Line.{fetch_letter, delivered_fields, spaced}
 use Rattle.text.proofs.Putting.{puts_is, puts_both}
-use Rattle.log.proofs.line.put_delivered.Statement.{statement}
-use Rattle.log.proofs.line.put_delivered.Tie as tie
+use Rattle.loglines.proofs.line.put_delivered.Statement.{statement}
+use Rattle.loglines.proofs.line.put_delivered.Tie as tie
 
 -- what is shown for another letter, and for a fetch that delivered nothing or something
 module _ (letter : ℕ) where

@@ -1,8 +1,8 @@
 -- The numbers are put one behind the other.
 use borrow.Author.Rules.{rules}
 use Rattle.text.proofs.Putting.{puts_both}
-use Rattle.log.proofs.line.put_two.Statement.{statement}
-use Rattle.log.proofs.line.put_two.Tie as tie
+use Rattle.loglines.proofs.line.put_two.Statement.{statement}
+use Rattle.loglines.proofs.line.put_two.Tie as tie
 
 returns : tie.Need-returns
 returns c =
