@@ -10,7 +10,7 @@ use state::Refusal;
 use text::{put_byte, put_decimal, put_hex, wide};
 
 // What was done with a frame.
-#[derive(Drop)]
+#[derive(Clone, Copy)]
 pub enum Answer {
     Done,
     // how many bytes a host write wrote
