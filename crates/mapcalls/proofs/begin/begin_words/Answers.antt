@@ -12,7 +12,7 @@ pub returns-in-Refused : goal.returns-in-Refused
 unfolding accepted begin_map
 returns-in-Refused c =
     let lent : Map = map_of c.args.flag.now c.args.words.now c.args.values.now in
-    let says = says_of begin_reply c.judge-answer.ensures c.answer-1.given.1 in
+    let says = says_of begin_reply c.judge-answer.ensures c.in-Refused.is in
     let no : accepted (begin_says (lent)) ≡ false = ap accepted says in
     record { answer = sym says; map = rw no }
 

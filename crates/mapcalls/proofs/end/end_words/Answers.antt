@@ -12,7 +12,7 @@ pub returns-in-Refused : goal.returns-in-Refused
 unfolding accepted end_map
 returns-in-Refused c =
     let lent : Map = map_of c.args.flag.now c.args.words.now c.args.values.now in
-    let says = says_of end_reply c.judge-answer.ensures c.answer-1.given.1 in
+    let says = says_of end_reply c.judge-answer.ensures c.in-Refused.is in
     let no : accepted (end_says (lent)) ≡ false = ap accepted says in
     record { answer = sym says; map = rw no }
 
@@ -20,6 +20,6 @@ pub returns-in-Done : goal.returns-in-Done
 unfolding accepted end_map
 returns-in-Done c =
     let lent : Map = map_of c.args.flag.now c.args.words.now c.args.values.now in
-    let says = says_of end_reply c.judge-answer.ensures c.answer-in-Done-1.given.1 in
+    let says = says_of end_reply c.judge-answer.ensures c.in-Done.is in
     let yes : accepted (end_says (lent)) ≡ true = ap accepted says in
     record { answer = sym says; map = rw yes c.reset.ensures }
