@@ -45,7 +45,7 @@ returns-in-Records c =
 pub deliver-requires : goal.deliver-requires
 deliver-requires c =
     let A : Admits (state_of c.args.state.now) (length c.args.store.now) (length c.args.window.now) (length c.args.destination.now)
-        c.args.command c.args.address c.args.size = admits _ (length c.args.store.now) (length c.args.window.now) (length c.args.destination.now) _ _ c.args.size c.requires.1 in
+    c.args.command c.args.address c.args.size = admits _ (length c.args.store.now) (length c.args.window.now) (length c.args.destination.now) _ _ c.args.size c.requires.1 in
     let words : List ℕ = c.args.state.now in
     let store : List ℕ = c.args.store.now in
     let window : List ℕ = c.args.window.now in

@@ -22,8 +22,8 @@ pub returns-then-size-eq0 : goal.returns-then-size-eq0
 unfolding accepted
 returns-then-size-eq0 c =
     let admitted : accepted (verdict (admit_checks (state_of c.args.state.now) (length c.args.store.now) (length c.args.window.now)
-        (length c.args.destination.now) c.args.command c.args.address c.args.size) (replied []))
-        ≡ true = ap accepted (says_of admission_reply c.admit-admission.ensures c.in_default.is) in
+    (length c.args.destination.now) c.args.command c.args.address c.args.size) (replied []))
+    ≡ true = ap accepted (says_of admission_reply c.admit-admission.ensures c.in_default.is) in
     let a = c.args in
     nothing a.state.now a.store.now a.window.now a.destination.now a.command a.address a.size (omega arith) (admitted)
 
@@ -31,6 +31,6 @@ pub fetch_span-requires : goal.fetch_span-requires
 unfolding accepted
 fetch_span-requires c =
     let admitted : accepted (verdict (admit_checks (state_of c.args.state.now) (length c.args.store.now) (length c.args.window.now)
-        (length c.args.destination.now) c.args.command c.args.address c.args.size) (replied []))
-        ≡ true = ap accepted (says_of admission_reply c.admit-admission.ensures c.in_default.is) in
+    (length c.args.destination.now) c.args.command c.args.address c.args.size) (replied []))
+    ≡ true = ap accepted (says_of admission_reply c.admit-admission.ensures c.in_default.is) in
     (c.requires, admitted, omega arith)

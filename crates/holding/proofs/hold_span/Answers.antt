@@ -53,8 +53,8 @@ hold-requires c =
     let behind : ℕ = c.in-Span.behind in
     let looked : ℕ = c.in-Span.looked in
     let R : SpanRoom c.args.state.now c.args.store.now c.args.command c.args.address c.args.size c.args.base c.args.source.now
-        m fresh place behind looked = room c.args.state.now c.args.store.now _ _ _ c.args.base c.args.source.now c.requires m fresh place behind looked
-        (subst (Found) c.in-Span.is c.planned-plan.ensures) in
+    m fresh place behind looked = room c.args.state.now c.args.store.now _ _ _ c.args.base c.args.source.now c.requires m fresh place behind looked
+    (subst (Found) c.in-Span.is c.planned-plan.ensures) in
     let g = given in
     (g.command, c.requires.size, g.sized, (R).fits, (R).behind)
 
@@ -78,8 +78,8 @@ splice-requires c =
     let behind : ℕ = c.in-Span.behind in
     let looked : ℕ = c.in-Span.looked in
     let R : SpanRoom c.args.state.now c.args.store.now c.args.command c.args.address c.args.size c.args.base c.args.source.now
-        m fresh place behind looked = room c.args.state.now c.args.store.now _ _ _ c.args.base c.args.source.now c.requires m fresh place behind looked
-        (subst (Found) c.in-Span.is c.planned-plan.ensures) in
+    m fresh place behind looked = room c.args.state.now c.args.store.now _ _ _ c.args.base c.args.source.now c.requires m fresh place behind looked
+    (subst (Found) c.in-Span.is c.planned-plan.ensures) in
     let r = R in
     ((given).sized, r.opened, r.order, r.most, r.few)
 
@@ -106,6 +106,6 @@ returns-in-Span c =
     let behind : ℕ = c.in-Span.behind in
     let looked : ℕ = c.in-Span.looked in
     let R : SpanRoom c.args.state.now c.args.store.now c.args.command c.args.address c.args.size c.args.base c.args.source.now
-        m fresh place behind looked = room c.args.state.now c.args.store.now _ _ _ c.args.base c.args.source.now c.requires m fresh place behind looked
-        (subst (Found) c.in-Span.is c.planned-plan.ensures) in
+    m fresh place behind looked = room c.args.state.now c.args.store.now _ _ _ c.args.base c.args.source.now c.requires m fresh place behind looked
+    (subst (Found) c.in-Span.is c.planned-plan.ensures) in
     (R).held c.splice.new.words _ c.splice.ensures.1 c.splice.ensures.0 c.hold.ensures

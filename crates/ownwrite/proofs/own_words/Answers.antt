@@ -22,8 +22,8 @@ pub returns-then-size-eq0 : goal.returns-then-size-eq0
 unfolding accepted
 returns-then-size-eq0 c =
     let admitted : accepted (verdict (admit_checks (state_of c.args.state.now) (length c.args.store.now) (length c.args.window.now)
-        (length c.args.bytes.now) c.args.command c.args.address (length c.args.bytes.now)) (replied []))
-        ≡ true = ap accepted (says_of admission_reply c.admit-admission.ensures c.in_default.is) in
+    (length c.args.bytes.now) c.args.command c.args.address (length c.args.bytes.now)) (replied []))
+    ≡ true = ap accepted (says_of admission_reply c.admit-admission.ensures c.in_default.is) in
     let a = c.args in
     nothing a.state.now a.store.now a.window.now a.command a.address a.bytes.now (omega arith) (admitted)
 
@@ -31,6 +31,6 @@ pub write_span-requires : goal.write_span-requires
 unfolding accepted
 write_span-requires c =
     let admitted : accepted (verdict (admit_checks (state_of c.args.state.now) (length c.args.store.now) (length c.args.window.now)
-        (length c.args.bytes.now) c.args.command c.args.address (length c.args.bytes.now)) (replied []))
-        ≡ true = ap accepted (says_of admission_reply c.admit-admission.ensures c.in_default.is) in
+    (length c.args.bytes.now) c.args.command c.args.address (length c.args.bytes.now)) (replied []))
+    ≡ true = ap accepted (says_of admission_reply c.admit-admission.ensures c.in_default.is) in
     (c.requires, admitted, omega arith)
