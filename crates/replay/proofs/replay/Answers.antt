@@ -23,10 +23,10 @@ returns-then-taken-eq0 c =
     let frame : List ℕ = drop c.loop-at.at input in
     let running : Running (device) input c.args.output.now c.loop-at.at c.loop-at.number c.loop-at.written c.loop-at.carried d c.loop-at.output = c.loop-at.invariant.0 in
     let whole : take (length input - c.loop-at.at) frame ≡ frame = take_all (length input - c.loop-at.at) frame (omega (arith, length-drop c.loop-at.at input)) in
-    let inside : c.loop-at.at < length (input) = c.loop-at-test.taken in
-    let logged : let after = c.log_frame-r.new.state in
+    let inside : c.loop-at.at < length (input) = c.loop-at-test.true in
+    let logged : let after = c.log_frame-r.new in
         Logs (d) (c.loop-at.number + 1) (frame) c.loop-at.output c.loop-at.written c.log_frame-r.result
-        after.0 after.1.0 after.1.1.0 after.1.1.1.0 after.1.1.1.1.0 = rw (whole) at c.log_frame-r.ensures in
+        after.state after.store after.window after.destination after.output = rw (whole) at c.log_frame-r.ensures in
     let L = logged in
     replays_unreadable (device) (input) _ _ _ _ _ (d) _ (running) (inside) _ _ L.line
     (none_unread (frame) L.taken (omega arith)) L.leaves
@@ -36,16 +36,15 @@ overflow_add-at c =
     let input : List ℕ = c.args.input.now in
     let d : Device = device_of c.loop-at.state c.loop-at.store c.loop-at.window c.loop-at.destination in
     let frame : List ℕ = drop c.loop-at.at input in
-    let bound : length input < 2 ^ 64 = c.good.0.0 in
     let whole : take (length input - c.loop-at.at) frame ≡ frame = take_all (length input - c.loop-at.at) frame (omega (arith, length-drop c.loop-at.at input)) in
-    let inside : c.loop-at.at < length (input) = c.loop-at-test.taken in
-    let logged : let after = c.log_frame-r.new.state in
+    let inside : c.loop-at.at < length (input) = c.loop-at-test.true in
+    let logged : let after = c.log_frame-r.new in
         Logs (d) (c.loop-at.number + 1) (frame) c.loop-at.output c.loop-at.written c.log_frame-r.result
-        after.0 after.1.0 after.1.1.0 after.1.1.1.0 after.1.1.1.1.0 = rw (whole) at c.log_frame-r.ensures in
+        after.state after.store after.window after.destination after.output = rw (whole) at c.log_frame-r.ensures in
     let read = some_read (frame) (logged).taken c.if-taken-eq0.false in
     let most : c.loop-at.at + c.log_frame-r.result.taken ≤ length (input)
     = omega (arith, (logged).taken, (taken_read (frame) read).there, length-drop c.loop-at.at (input), inside) in
-    omega (arith, most, bound)
+    omega (arith, most)
 
 pub loop-at-preserved : goal.loop-at-preserved
 loop-at-preserved c =
@@ -55,10 +54,10 @@ loop-at-preserved c =
     let frame : List ℕ = drop c.loop-at.at input in
     let running : Running (device) input c.args.output.now c.loop-at.at c.loop-at.number c.loop-at.written c.loop-at.carried d c.loop-at.output = c.loop-at.invariant.0 in
     let whole : take (length input - c.loop-at.at) frame ≡ frame = take_all (length input - c.loop-at.at) frame (omega (arith, length-drop c.loop-at.at input)) in
-    let inside : c.loop-at.at < length (input) = c.loop-at-test.taken in
-    let logged : let after = c.log_frame-r.new.state in
+    let inside : c.loop-at.at < length (input) = c.loop-at-test.true in
+    let logged : let after = c.log_frame-r.new in
         Logs (d) (c.loop-at.number + 1) (frame) c.loop-at.output c.loop-at.written c.log_frame-r.result
-        after.0 after.1.0 after.1.1.0 after.1.1.1.0 after.1.1.1.1.0 = rw (whole) at c.log_frame-r.ensures in
+        after.state after.store after.window after.destination after.output = rw (whole) at c.log_frame-r.ensures in
     let L = logged in
     let read = some_read (frame) L.taken c.if-taken-eq0.false in
     let count = ap (λ (k : ℕ). c.loop-at.carried + k) (c.one_if-carried.ensures.0 ∙ ap (λ (b : Bool). cond b 1 0) L.accepted) in (
