@@ -1,0 +1,9 @@
+-- The bytes read are no more than there is room for. The measure is the room left.
+use Rattle.std.proofs.Common.{◌-◌, ◌≤◌, length}
+use Rattle.console.proofs.input.read_whole.Given as goal
+
+abbrev pub invariant-loop-done : goal.invariant-loop-done
+invariant-loop-done g l = l.done ≤ length l.buffer
+
+abbrev pub decreases-loop-done : goal.decreases-loop-done
+decreases-loop-done g l = length l.initial.buffer - l.done
