@@ -44,15 +44,15 @@ other_digit off d e = rw e
 other_digit on d e = rw e
 
 module _ (a b j : ℕ) where
-  pub bit_and : bit (bit_and a b) j ≡ (bit a j && bit b j)
-  bit_and =
+  pub bit_and_lem : bit (bit_and a b) j ≡ (bit a j && bit b j)
+  bit_and_lem =
       let x = a / 2 ^ j in
       let y = b / 2 ^ j in
       let odd : bit_and x y % 2 ≡ min (x % 2) (y % 2) = omega (arith, and_step x y) in
       ap (λ (w : ℕ). eqb (w % 2) 1) (and_shr a b j) ∙ ap (λ (d : ℕ). eqb d 1) odd ∙ both_digits (digit_of x) (digit_of y)
 
-  pub bit_or : bit (bit_or a b) j ≡ (bit a j || bit b j)
-  bit_or =
+  pub bit_or_lem : bit (bit_or a b) j ≡ (bit a j || bit b j)
+  bit_or_lem =
       let x = a / 2 ^ j in
       let y = b / 2 ^ j in
       let odd : bit_or x y % 2 ≡ max (x % 2) (y % 2) = omega (arith, or_step x y) in
@@ -99,13 +99,13 @@ pub bit_shifted : (w k : ℕ) (first : Bool) (j : ℕ) → j < k → bit (bit_or
 bit_shifted w k first zero h =
     let even : w * 2 % 2 ≡ 0 = omega arith in
     let own : digit first % 2 ≡ digit first = omega (arith, digit_small first) in
-    bit_or (w * 2 % 2 ^ k) (digit first) 0
+    bit_or_lem (w * 2 % 2 ^ k) (digit first) 0
     ∙ ap₂ ◌||◌ (bit_low (w * 2) k 0 h ∙ bit_lowest (w * 2) ∙ ap (λ (d : ℕ). eqb d 1) even)
     (bit_lowest (digit first) ∙ ap (λ (d : ℕ). eqb d 1) own ∙ digit_odd first)
 bit_shifted w k first (suc j) h =
     let half : w * 2 / 2 ≡ w = omega arith in
     let none : digit first / 2 ≡ 0 = omega (arith, digit_small first) in
-    bit_or (w * 2 % 2 ^ k) (digit first) (suc j)
+    bit_or_lem (w * 2 % 2 ^ k) (digit first) (suc j)
     ∙ ap₂ ◌||◌ (bit_low (w * 2) k (suc j) h ∙ bit_higher (w * 2) j ∙ ap (λ (v : ℕ). bit v j) half)
     (bit_higher (digit first) j ∙ ap (λ (v : ℕ). bit v j) none ∙ bit_of_zero j)
     ∙ or-false (bit w j)
@@ -116,13 +116,13 @@ module _ (f g : ℕ → Bool) (k : ℕ) where
   word_and =
       same_bits (bit_and (word_of f k) (word_of g k)) (word_of (λ j. f j && g j) k) k (and_lt k (word_of f k) (word_of g k) (word_below f k) (word_below g k))
       (word_below (λ j. f j && g j) k)
-      (λ j h. bit_and (word_of f k) (word_of g k) j ∙ ap₂ ◌&&◌ (word_bit f k j h) (word_bit g k j h) ∙ sym (word_bit (λ j. f j && g j) k j h))
+      (λ j h. bit_and_lem (word_of f k) (word_of g k) j ∙ ap₂ ◌&&◌ (word_bit f k j h) (word_bit g k j h) ∙ sym (word_bit (λ j. f j && g j) k j h))
 
   pub word_or : bit_or (word_of f k) (word_of g k) ≡ word_of (λ j. f j || g j) k
   word_or =
       same_bits (bit_or (word_of f k) (word_of g k)) (word_of (λ j. f j || g j) k) k (or_lt k (word_of f k) (word_of g k) (word_below f k) (word_below g k))
       (word_below (λ j. f j || g j) k)
-      (λ j h. bit_or (word_of f k) (word_of g k) j ∙ ap₂ ◌||◌ (word_bit f k j h) (word_bit g k j h) ∙ sym (word_bit (λ j. f j || g j) k j h))
+      (λ j h. bit_or_lem (word_of f k) (word_of g k) j ∙ ap₂ ◌||◌ (word_bit f k j h) (word_bit g k j h) ∙ sym (word_bit (λ j. f j || g j) k j h))
 
 -- Tests of which no two pass at one place, and one of them passes just where a third does: their words add up.
 pub word_add : (f g h : ℕ → Bool) (k : ℕ) → ((j : ℕ) → digit (f j) + digit (g j) ≡ digit (h j)) → word_of f k + word_of g k ≡ word_of h k

@@ -19,7 +19,7 @@ use Rattle.bits.specs.declared.walk.Walk.{Walk}
 use Rattle.bits.specs.Walk.{Walked, Walking}
 use Rattle.bits.specs.Bits.{word_limit, map_limit, bit, word_of, word_at, lower, starts_at}
 use Rattle.bits.proofs.Word.{digit, digit_small, digit_odd, word_below, word_bit, same_bits}
-use Rattle.bits.proofs.Operations.{bit_and, bit_not, bit_shifted, bit_top}
+use Rattle.bits.proofs.Operations.{bit_and_lem, bit_not, bit_shifted, bit_top}
 use Rattle.bits.proofs.Counts.{count_empty, count_bound, count_same}
 use Rattle.bits.proofs.Words.{word_ones, count_more}
 
@@ -99,7 +99,7 @@ module _ (w k : ℕ) (first : Bool) (small : w < 2 ^ k) (some : 0 < k) where
 
   start_bit : (j : ℕ) → j < k → bit (bit_and w (2 ^ k - 1 - above)) j ≡ starts_at first (bit w) j
   start_bit j h =
-      bit_and w (2 ^ k - 1 - above) j
+      bit_and_lem w (2 ^ k - 1 - above) j
       ∙ ap (λ (b : Bool). bit w j && b) (bit_not above k j above_small h ∙ ap not (bit_shifted w k first j h))
 
   word_starts : ones (bit_and w (2 ^ k - 1 - above)) ≡ count (starts_at first (bit w)) (span 0 k)

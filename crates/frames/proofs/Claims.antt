@@ -22,10 +22,10 @@ use Rattle.frames.proofs.Zeros.{zeros}
 use Rattle.frames.proofs.Accepted.{Readable, readable, reads, Writable, writable, writes, writable_fit}
 
 pub unpack_pack : UnpackPack
-unpack_pack = bits.unpack-pack
+unpack_pack = bits.unpack_pack
 
 pub pack_unpack : PackUnpack
-pack_unpack = bits.pack-unpack
+pack_unpack = bits.pack_unpack
 
 accepts : (r : Reply) {ns : List ℕ} → r ≡ replied ns → accepted r ≡ true
 unfolding accepted

@@ -104,11 +104,11 @@ leads n = by_digits Leads small large n
     large m ds more tenth =
         record {
           some = omega (arith, length-append ds (digit (m % 10) ∷ []), tenth.some);
-          zero_only = λ e. omega (arith, tenth.zero-only (sym (get_or-append ds (digit (m % 10) ∷ []) 0 0 tenth.some) ∙ e));
+          zero_only = λ e. omega (arith, tenth.zero_only (sym (get_or-append ds (digit (m % 10) ∷ []) 0 0 tenth.some) ∙ e));
         }
 
 pub no_leading_zero : NoLeadingZero
-no_leading_zero n rest e = (leads n).zero-only (ap (λ (l : List ℕ). get_or l 0 0) e)
+no_leading_zero n rest e = (leads n).zero_only (ap (λ (l : List ℕ). get_or l 0 0) e)
 
 -- How long they are
 

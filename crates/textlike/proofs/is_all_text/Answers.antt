@@ -6,7 +6,6 @@ use mathlib.Core.List.{List}
 use mathlib.Core.Bool.{true, false}
 use lib.ListN.{length, drop, get_or, drop_of_length-le}
 use lib.Seq.{drop-cons}
-use borrow.Author.Tests.{not-true, not-false}
 use Rattle.octets.specs.Lists.{all}
 use Rattle.textlike.specs.Texts.{is_text}
 use Rattle.textlike.proofs.is_all_text.Goals as goal
@@ -28,12 +27,12 @@ none bytes i past = rw (drop_of_length-le bytes {i = i} past)
 pub returns-then-not-is_text : goal.returns-then-not-is_text
 returns-then-not-is_text c =
     let bytes : List ℕ = c.args.bytes.now in
-    failed (bytes) c.loop-i.i (omega arith) (sym c.is_text.ensures ∙ not-true _ c.if-not-is_text.true) ∙ c.loop-i.invariant
+    failed (bytes) c.loop-i.i (omega arith) (sym c.is_text.ensures ∙ c.if-not-is_text.true) ∙ c.loop-i.invariant
 
 pub loop-i-preserved : goal.loop-i-preserved
 loop-i-preserved c =
     let bytes : List ℕ = c.args.bytes.now in
-    passed (bytes) c.loop-i.i (omega arith) (sym c.is_text.ensures ∙ not-false _ c.if-not-is_text.false) ∙ c.loop-i.invariant
+    passed (bytes) c.loop-i.i (omega arith) (sym c.is_text.ensures ∙ c.if-not-is_text.false) ∙ c.loop-i.invariant
 
 pub returns : goal.returns
 returns c = none c.args.bytes.now c.loop-i.i (omega (arith, c.loop-i-test.false)) ∙ c.loop-i.invariant

@@ -1,6 +1,7 @@
 use Prim.Native.Nat.{◌-◌}
 use native.Mathlib.Omega.{arith}
 use mathlib.Core.Path.{◌≡◌, ◌∙◌}
+use mathlib.Core.List.{[]}
 use mathlib.Core.Bool.{and-true}
 use lib.ListN.{drop, drop_of_length-le}
 use Rattle.octets.specs.Lists.{all}

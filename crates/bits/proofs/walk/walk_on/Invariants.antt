@@ -5,8 +5,8 @@ use Rattle.bits.proofs.walk.walk_on.Given as goal
 
 abbrev pub invariant-loop-i : goal.invariant-loop-i
 invariant-loop-i l =
-    (l.initial.i ≤ l.i) × (l.i ≤ l.to) × WalksOn l.words l.initial.i l.i (record { l.n = l.initial.n; l.carry = l.initial.carry }) (record { l.n = l.n; l.carry = l.carry })
-    × Walking (record { l.n = l.n; l.carry = l.carry }) l.i
+    (l.initial.i ≤ l.i) × (l.i ≤ l.to) × WalksOn l.words l.initial.i l.i (record { n = l.initial.n; carry = l.initial.carry }) (record { n = l.n; carry = l.carry })
+    × Walking (record { n = l.n; carry = l.carry }) l.i
 
 abbrev pub decreases-loop-i : goal.decreases-loop-i
 decreases-loop-i l = l.to - l.i

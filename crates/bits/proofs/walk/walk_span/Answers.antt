@@ -30,9 +30,10 @@ loop-i-preserved c =
   λ start. walk_on (test) (record { n = c.loop-i.n; carry = c.loop-i.carry }) (i) (c.loop-i.invariant.2 start) _ (word)
       c.starts-n.result c.starts-n.ensures.0,
   record { few = omega (arith, c.starts-n.ensures.1); bit = omega (arith, word, word_below (λ j. test (64 * i + j)) 64) },
+    )
 
 pub returns : goal.returns
-returns c =
+returns c start =
     let a = c.args in
     let all : c.loop-i.i ≡ (a.high + 63) / 64 = omega arith in
     subst (λ (k : ℕ). Walked (either a.words.now a.low a.high) (record { n = c.loop-i.n; carry = c.loop-i.carry }) k) all (c.loop-i.invariant.2 start)

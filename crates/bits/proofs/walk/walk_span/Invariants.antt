@@ -7,8 +7,8 @@ use Rattle.bits.proofs.walk.walk_span.Given as goal
 abbrev pub invariant-loop-i : goal.invariant-loop-i
 invariant-loop-i l =
     (l.initial.i ≤ l.i) × (l.i ≤ l.end)
-    × (Walked (either l.words l.low l.high) (record { l.n = l.initial.n; l.carry = l.initial.carry }) l.initial.i → Walked (either l.words l.low l.high) (record { l.n = l.n; l.carry = l.carry }) l.i)
-    × Walking (record { l.n = l.n; l.carry = l.carry }) l.i
+    × (Walked (either l.words l.low l.high) (record { n = l.initial.n; carry = l.initial.carry }) l.initial.i → Walked (either l.words l.low l.high) (record { n = l.n; carry = l.carry }) l.i)
+    × Walking (record { n = l.n; carry = l.carry }) l.i
 
 abbrev pub decreases-loop-i : goal.decreases-loop-i
 decreases-loop-i l = l.end - l.i

@@ -1,7 +1,7 @@
 -- At each return the tests before it say which of the checks apply, and the lowest that does is the one returned.
 use Prim.Native.Nat.{◌-◌}
 use native.Mathlib.Omega.{arith}
-use borrow.Author.Tests.{le-ltb, lt-ltb, not-true, not-false}
+use borrow.Author.Tests.{le-ltb, lt-ltb}
 use Rattle.state.specs.Verdict.{verdict}
 use Rattle.frames.specs.Read.{fields_say}
 use Rattle.kinds.specs.Table.{is_kind}
@@ -15,7 +15,7 @@ unfolding fields_say verdict
 returns-then-not-allowed c =
     let h = c.args.head in
     let given = c.args.given in
-    let unknown = said (is_kind h.kind) c.allowed.ensures (not-true _ c.if-not-allowed.true) in
+    let unknown = said (is_kind h.kind) c.allowed.ensures c.if-not-allowed.true in
     rw (le-ltb given 5 (omega arith), unknown)
 
 pub returns-then-zero_broken : goal.returns-then-zero_broken
@@ -23,7 +23,7 @@ unfolding fields_say verdict
 returns-then-zero_broken c =
     let h = c.args.head in
     let given = c.args.given in
-    let known = said (is_kind h.kind) c.allowed.ensures (not-false _ c.if-not-allowed.false) in
+    let known = said (is_kind h.kind) c.allowed.ensures c.if-not-allowed.false in
     let broken = said (zero_broken h.kind h.command h.address h.size h.spare) c.zero_broken.ensures c.if-zero_broken.true in
     rw (le-ltb given 5 (omega arith), known, broken)
 
@@ -32,7 +32,7 @@ unfolding fields_say verdict
 returns-then-size-gt-TRANSFER c =
     let h = c.args.head in
     let given = c.args.given in
-    let known = said (is_kind h.kind) c.allowed.ensures (not-false _ c.if-not-allowed.false) in
+    let known = said (is_kind h.kind) c.allowed.ensures c.if-not-allowed.false in
     let zero = said (zero_broken h.kind h.command h.address h.size h.spare) c.zero_broken.ensures c.if-zero_broken.false in
     rw (le-ltb given 5 (omega arith), known, zero, lt-ltb 4096 h.size (omega arith))
 
@@ -41,7 +41,7 @@ unfolding fields_say verdict
 returns-then-given-follow c =
     let h = c.args.head in
     let given = c.args.given in
-    let known = said (is_kind h.kind) c.allowed.ensures (not-false _ c.if-not-allowed.false) in
+    let known = said (is_kind h.kind) c.allowed.ensures c.if-not-allowed.false in
     let zero = said (zero_broken h.kind h.command h.address h.size h.spare) c.zero_broken.ensures c.if-zero_broken.false in
     let follow = c.data_size-follow.result in
     rw (le-ltb given 5 (omega arith), known, zero, le-ltb 4096 h.size (omega arith), ← c.data_size-follow.ensures, lt-ltb (given - 5) follow (omega arith))
@@ -54,7 +54,7 @@ overflow_add-result c =
 pub step_of-requires : goal.step_of-requires
 step_of-requires c =
     let h = c.args.head in
-    let known = said (is_kind h.kind) c.allowed.ensures (not-false _ c.if-not-allowed.false) in
+    let known = said (is_kind h.kind) c.allowed.ensures c.if-not-allowed.false in
     let zero = said (zero_broken h.kind h.command h.address h.size h.spare) c.zero_broken.ensures c.if-zero_broken.false in
     (known, zero)
 
@@ -63,7 +63,7 @@ unfolding fields_say verdict
 returns c =
     let h = c.args.head in
     let given = c.args.given in
-    let known = said (is_kind h.kind) c.allowed.ensures (not-false _ c.if-not-allowed.false) in
+    let known = said (is_kind h.kind) c.allowed.ensures c.if-not-allowed.false in
     let zero = said (zero_broken h.kind h.command h.address h.size h.spare) c.zero_broken.ensures c.if-zero_broken.false in
     let follow = c.data_size-follow.result in
     rw (le-ltb given 5 (omega arith), known, zero, le-ltb 4096 h.size (omega arith), ← c.data_size-follow.ensures, le-ltb (given - 5) follow (omega arith), c.step_of.ensures)

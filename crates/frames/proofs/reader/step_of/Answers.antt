@@ -9,7 +9,7 @@ pub returns-in-0 : goal.returns-in-0
 returns-in-0 c =
     let h = c.args.head in
     let z = zeros h.kind h.command h.address h.size h.spare c.requires.1 in
-    let a = z.address_zero (rw c.in-0.keys1) in let n = z.size_zero (rw c.in-0.keys1) in cc
+    let a = z.address_zero (rw c.in-0.is) in let n = z.size_zero (rw c.in-0.is) in cc
 
 pub returns-in-1 : goal.returns-in-1
 returns-in-1 c = cc
@@ -18,13 +18,13 @@ pub returns-in-2 : goal.returns-in-2
 returns-in-2 c =
     let h = c.args.head in
     let z = zeros h.kind h.command h.address h.size h.spare c.requires.1 in
-    let a = z.address_zero (rw c.in-2.keys3) in let n = z.size_zero (rw c.in-2.keys3) in cc
+    let a = z.address_zero (rw c.in-2.is) in let n = z.size_zero (rw c.in-2.is) in cc
 
 pub returns-in-3 : goal.returns-in-3
 returns-in-3 c =
     let h = c.args.head in
     let z = zeros h.kind h.command h.address h.size h.spare c.requires.1 in
-    let m = z.command_zero_lem (rw c.in-3.keys4) in cc
+    let m = z.command_zero_lem (rw c.in-3.is) in cc
 
 pub returns-in_default : goal.returns-in_default
 returns-in_default c = let last : c.args.head.kind ≡ 4 = omega (arith, ltb-true c.args.head.kind 5 c.requires.0) in cc

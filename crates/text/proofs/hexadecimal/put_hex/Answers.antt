@@ -64,8 +64,8 @@ returns-then-whole-bytes c =
     let bytes_given : List ℕ = c.args.bytes.now in
     let whole_found : ℕ = c.lesser-whole.result in
     let inside_out : c.args.at < length out_given = omega arith in
-    let out_left : List ℕ = back out_given bytes_given c.args.at whole_found inside_out c.lesser-whole.ensures c.put_pairs.last.0 in
-    let pairs_put : Puts out_given c.args.at (hexadecimal (take whole_found bytes_given)) (c.args.at + 2 * whole_found) out_left = paired out_given bytes_given c.args.at whole_found inside_out c.lesser-whole.ensures c.put_pairs.last.0
+    let out_left : List ℕ = back out_given bytes_given c.args.at whole_found inside_out c.lesser-whole.ensures c.put_pairs.new.out in
+    let pairs_put : Puts out_given c.args.at (hexadecimal (take whole_found bytes_given)) (c.args.at + 2 * whole_found) out_left = paired out_given bytes_given c.args.at whole_found inside_out c.lesser-whole.ensures c.put_pairs.new.out
         c.put_pairs.ensures in
     one_cut (out_given) (bytes_given) c.args.at (whole_found) (inside_out) c.lesser-whole.ensures
     (omega arith)
@@ -78,8 +78,8 @@ returns c =
     let bytes_given : List ℕ = c.args.bytes.now in
     let whole_found : ℕ = c.lesser-whole.result in
     let inside_out : c.args.at < length out_given = omega arith in
-    let out_left : List ℕ = back out_given bytes_given c.args.at whole_found inside_out c.lesser-whole.ensures c.put_pairs.last.0 in
-    let pairs_put : Puts out_given c.args.at (hexadecimal (take whole_found bytes_given)) (c.args.at + 2 * whole_found) out_left = paired out_given bytes_given c.args.at whole_found inside_out c.lesser-whole.ensures c.put_pairs.last.0
+    let out_left : List ℕ = back out_given bytes_given c.args.at whole_found inside_out c.lesser-whole.ensures c.put_pairs.new.out in
+    let pairs_put : Puts out_given c.args.at (hexadecimal (take whole_found bytes_given)) (c.args.at + 2 * whole_found) out_left = paired out_given bytes_given c.args.at whole_found inside_out c.lesser-whole.ensures c.put_pairs.new.out
         c.put_pairs.ensures in
     all_put (out_given) (bytes_given) c.args.at (whole_found) (inside_out) c.lesser-whole.ensures
     (omega arith)

@@ -18,12 +18,12 @@ closed = refl
 
 pub returns-then-opened : goal.returns-then-opened
 returns-then-opened c =
-    let cleared : c.clear.new.0 ≡ replicate 129 0 = c.clear.ensures ∙ ap (λ (n : ℕ). replicate n 0) c.requires in
+    let cleared : c.clear.new.words ≡ replicate 129 0 = c.clear.ensures ∙ ap (λ (n : ℕ). replicate n 0) c.requires in
     let zeros = cleared in
     (rw (zeros, c.if-opened.true) opened, rw zeros refl)
 
 pub returns-else-opened : goal.returns-else-opened
 returns-else-opened c =
-    let cleared : c.clear.new.0 ≡ replicate 129 0 = c.clear.ensures ∙ ap (λ (n : ℕ). replicate n 0) c.requires in
+    let cleared : c.clear.new.words ≡ replicate 129 0 = c.clear.ensures ∙ ap (λ (n : ℕ). replicate n 0) c.requires in
     let zeros = cleared in
     (rw (zeros, c.if-opened.false) closed, rw zeros refl)
