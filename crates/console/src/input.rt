@@ -1,5 +1,6 @@
 // An input, read whole.
-ghost use Rattle.std.specs.Prelude.{◌+◌, ◌≤◌, length, IfOk};
+ghost use Rattle.std.specs.Prelude.{◌≡◌, ◌+◌, ◌<◌, ◌≤◌, length, take, drop, IfOk, OnErr, IsTrue};
+ghost use Rattle.std.specs.Io.KnownBytes.{Keeps, Consumes, IsAtEnd};
 ghost use Rattle.console.specs.Counts.{IsPrefixLen};
 
 use crate::saying::say_unread;
@@ -16,7 +17,11 @@ pub struct Reading {
 // One read into the buffer from a place on: how many bytes it gave.
 fn read_more<R: Read>(input: &mut R, buffer: &mut [u8], done: usize) -> io::Result<usize>
     requires { done ≤ length buffer.old }
-    ensures { IfOk result (λ n. done + n ≤ length buffer.new) }
+    ensures front { take done buffer.new ≡ take done buffer.old }
+    ensures fits { IfOk result (λ n. done + n ≤ length buffer.new) }
+    ensures bytes { IfOk result (λ n. Consumes (R.remaining input.old) (R.remaining input.new) (take n (drop done buffer.new))) }
+    ensures end { IfOk result (λ n. n ≡ 0 → done < length buffer.new → IsAtEnd (R.remaining input.new)) }
+    ensures err { OnErr result (Keeps (R.remaining input.old) (R.remaining input.new)) }
 {
     input.read(&mut buffer[done..])
 }
@@ -28,7 +33,9 @@ pub fn read_whole<R: Read, E: Write>(
     input: &mut R,
     buffer: &mut [u8],
 ) -> Reading
-    ensures { IsPrefixLen result.count buffer.new }
+    ensures count { IsPrefixLen result.count buffer.new }
+    ensures bytes { Consumes (R.remaining input.old) (R.remaining input.new) (take result.count buffer.new) }
+    ensures end { IsTrue result.whole → result.count < length buffer.new → IsAtEnd (R.remaining input.new) }
 {
     let mut done = 0;
     while done < buffer.len() {

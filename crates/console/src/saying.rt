@@ -1,5 +1,6 @@
 // What a program says: on standard error, but for what it was asked to tell.
-ghost use Rattle.std.specs.Prelude.{◌≡◌, min, length};
+ghost use Rattle.std.specs.Prelude.{◌≡◌, min, length, take, IsTrue};
+ghost use Rattle.std.specs.Io.KnownBytes.{Appends};
 ghost use Rattle.console.specs.Counts.{IsPrefixLen};
 
 use numbers::lesser;
@@ -66,7 +67,9 @@ pub(crate) fn say_unread<E: Write>(errors: &mut E, program: &[u8], cause: io::Er
 }
 
 // A text on standard output. Tells whether it was written; that it could not be is said at once.
-pub fn tell<O: Write, E: Write>(streams: &mut Streams<O, E>, program: &[u8], text: &[u8]) -> bool {
+pub fn tell<O: Write, E: Write>(streams: &mut Streams<O, E>, program: &[u8], text: &[u8]) -> bool
+    ensures { IsTrue result → Appends (O.contents streams.old.output) (O.contents streams.new.output) text.now }
+{
     match streams.output.write_all(text) {
         Ok(()) => true,
         Err(cause) => {
@@ -84,7 +87,10 @@ pub fn tell_if<O: Write, E: Write>(
     program: &[u8],
     text: &[u8],
     n: usize,
-) -> bool {
+) -> bool
+    ensures wanted { IsTrue result → IsTrue wanted }
+    ensures written { IsTrue result → Appends (O.contents streams.old.output) (O.contents streams.new.output) (take n text.now) }
+{
     if !wanted {
         return false;
     }
