@@ -1,0 +1,12 @@
+use Prim.Native.Nat.{◌-◌, ◌≤◌}
+use mathlib.Core.Path.{◌≡◌}
+use lib.ListN.{length}
+use Rattle.state.specs.Limits.{command_words}
+use Rattle.join.specs.Splice.{MovedUp}
+use Rattle.join.proofs.splice.move_up.Given as goal
+
+abbrev pub invariant-loop-k : goal.invariant-loop-k
+invariant-loop-k l = (l.first ≤ l.k) × (l.k ≤ l.used) × (length l.words ≡ command_words) × MovedUp l.initial.words l.k l.used l.words
+
+abbrev pub decreases-loop-k : goal.decreases-loop-k
+decreases-loop-k l = l.k
