@@ -19,5 +19,5 @@ returns c =
     let a = c.args in
     or_faultless one.result other.result
     ∙ ap₂ ◌&&◌
-    (less_faultless a.start a.low one.result (omega arith) (omega arith) one.type-inv one.ensures)
-    (less_faultless a.len 1 other.result (omega arith) (omega arith) other.type-inv other.ensures)
+    (less_faultless a.start a.low one.result (omega arith) (omega arith) one.type_inv one.ensures.value)
+    (less_faultless a.len 1 other.result (omega arith) (omega arith) other.type_inv other.ensures.value)

@@ -16,8 +16,6 @@ use Rattle.integrity.proofs.records_hold.Goals as goal
 pub loop-i-preserved : goal.loop-i-preserved
 unfolding chained chain_low total
 loop-i-preserved c =
-    let rs : List Record = records_in (command_in c.args.words.now) in
-    let w : Walk = c.loop-i.w in
     let words = c.args.words.now in
     let p = command_in words in
     let i = c.loop-i.i in

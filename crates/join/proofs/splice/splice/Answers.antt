@@ -12,14 +12,14 @@ returns-then-last-first c =
     let u = c.used-n in
     let s = c.seal in
     let words = c.args.words.now in
-    (replaces_one words words s.new.0 c.args.m c.requires.1 u.result u.ensures.0 s.ensures (omega arith) refl, omega arith)
+    (replaces_one words words s.new.words c.args.m c.requires.1 u.result u.ensures.0 s.ensures (omega arith) refl, omega arith)
 
 pub returns-then-last-first-2 : goal.returns-then-last-first-2
 returns-then-last-first-2 c =
     let u = c.used-n in
     let up = c.move_up in
     let s = c.seal-then-last-first-2 in
-    let laid = replaces_none c.args.words.now up.new.0 s.new.0 c.args.m c.requires.1 u.result u.ensures.0 s.ensures in
+    let laid = replaces_none c.args.words.now up.new.words s.new.words c.args.m c.requires.1 u.result u.ensures.0 s.ensures in
     (laid (omega arith) (omega arith) (omega arith) up.ensures, omega arith)
 
 pub returns : goal.returns
@@ -30,6 +30,6 @@ returns c =
     let words = c.args.words.now in
     let m = c.args.m in
     let end : c.lesser-end.result ≡ min (u.result + 1) record_limit = omega arith in
-    let moved = subst (λ (k : ℕ). MovedDown words (m.first + 1) m.last k down.new.0) end down.ensures in
-    let laid = replaces_more words down.new.0 s.new.0 m c.requires.1 u.result u.ensures.0 s.ensures in
+    let moved = subst (λ (k : ℕ). MovedDown words (m.first + 1) m.last k down.new.words) end down.ensures in
+    let laid = replaces_more words down.new.words s.new.words m c.requires.1 u.result u.ensures.0 s.ensures in
     (laid (omega arith) (omega arith) (omega arith) moved, omega arith)
