@@ -13,7 +13,7 @@ use Rattle.frames.specs.declared.Step.TheVariants.{Begin, Fetch, End, HostWrite,
 use Rattle.kinds.specs.Table.{kind_of}
 use Rattle.frames.specs.Read.{step_numbers, read_says, data_of}
 use Rattle.cache.specs.Runs.{Call, says, delivers}
-use Rattle.log.specs.declared.line.Answer.TheVariants.{Refused}
+use Rattle.loglines.specs.declared.line.Answer.TheVariants.{Refused}
 use Rattle.device.specs.declared.Made.{Made}
 use Rattle.device.specs.Step.{Device, device_of, call_of, device_after, Makes}
 use Rattle.device.specs.Frame.{step_of, is_readable, taken_up, step_read, frame_call, frame_says, frame_leaves, frame_delivers, Carries}

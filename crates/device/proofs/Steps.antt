@@ -9,8 +9,8 @@ use Rattle.state.specs.State.{State}
 use Rattle.state.specs.Verdict.{accepted}
 use Rattle.cache.proofs.Accepted.{fetched}
 use Rattle.cache.specs.Runs.{Call, fetch, Machine, says, wanted, dest_after, delivers}
-use Rattle.log.specs.declared.line.Answer.{Answer}
-use Rattle.log.specs.Line.{answer_reply}
+use Rattle.loglines.specs.declared.line.Answer.{Answer}
+use Rattle.loglines.specs.Line.{answer_reply}
 use Rattle.device.specs.Step.{Device, device_of, device_after, Makes}
 
 -- devices of equal parts are equal

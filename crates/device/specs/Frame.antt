@@ -8,7 +8,7 @@ use Rattle.frames.specs.declared.Step.TheVariants.{Begin, Fetch, End, HostWrite,
 use Rattle.kinds.specs.Table.{kind_of}
 use Rattle.frames.specs.Read.{read_says, data_of}
 use Rattle.cache.specs.Runs.{Call, says, delivers}
-use Rattle.log.specs.Line.{answer_reply}
+use Rattle.loglines.specs.Line.{answer_reply}
 use Rattle.device.specs.declared.Carried.{Carried}
 use Rattle.device.specs.Step.{Device, device_of, call_of, device_after}
 

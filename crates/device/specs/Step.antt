@@ -6,7 +6,7 @@ use Rattle.state.specs.Words.{state_of}
 use Rattle.frames.specs.declared.Step.{Step}
 use Rattle.frames.specs.declared.Step.TheVariants.{Begin, Fetch, End, HostWrite, OwnWrite}
 use Rattle.cache.specs.Runs.{Call, begin, fetch, end, host_write, own_write, show, Machine, says, after, dest_after, window_after, delivers}
-use Rattle.log.specs.Line.{answer_reply}
+use Rattle.loglines.specs.Line.{answer_reply}
 use Rattle.device.specs.declared.Made.{Made}
 
 -- what a run hands on from step to step: state and store, the window, and the destination

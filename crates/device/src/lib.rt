@@ -1,7 +1,7 @@
 // What steps are made on: a state, a store, a window and a destination. What a step and a frame answer and leave: definitions in specs/,
 // proofs of what is claimed of them in proofs/, and here what the code that makes them hands back. That code is in `execution`.
 #![tactic(auto)]
-use log::Answer;
+use loglines::Answer;
 
 // How many bytes the frame took up (none if it is unreadable), its letter, the answer, and how many bytes were delivered to the front
 // of the destination.

@@ -2,7 +2,7 @@
 use Rattle.std.specs.Prelude.{ℕ, ◌≡◌, List}
 use Rattle.state.specs.Verdict.{accepted}
 use Rattle.octets.specs.Text.{Puts}
-use Rattle.log.specs.Line.{line_of}
+use Rattle.loglines.specs.Line.{line_of}
 use Rattle.device.specs.Step.{Device, device_of}
 use Rattle.device.specs.Frame.{taken_up, letter_of, frame_says, frame_leaves, frame_delivers}
 use Rattle.entry.specs.declared.Logged.{Logged}

@@ -30,7 +30,7 @@ pub fn log_frame(
     let carried = carry_out(frame, state, store, window, destination);
     let answer = carried.answer;
     let delivered = carried.delivered;
-    let next = log::put_line(
+    let next = loglines::put_line(
         output,
         at,
         number,
@@ -40,7 +40,7 @@ pub fn log_frame(
     );
     Logged {
         taken: carried.taken,
-        accepted: log::is_accepted(answer),
+        accepted: loglines::is_accepted(answer),
         next,
     }
 }

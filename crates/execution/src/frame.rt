@@ -8,7 +8,7 @@ ghost use Rattle.device.specs.Frame.{Carries};
 use crate::step::make;
 use device::Carried;
 use frames::{ReadAnswer, Step};
-use log::Answer;
+use loglines::Answer;
 use state::CacheState;
 
 // The letter of an unreadable frame.

@@ -2,12 +2,12 @@
 ghost use Rattle.std.specs.Prelude.{◌≡◌, cond};
 ghost use Rattle.state.specs.Verdict.{accepted};
 ghost use Rattle.state.specs.Answers.{begin_reply, end_reply, fetch_reply, host_write_reply, own_write_reply};
-ghost use Rattle.log.specs.Line.{answer_reply};
+ghost use Rattle.loglines.specs.Line.{answer_reply};
 ghost use Rattle.device.specs.Step.{device_of, call_of, Makes};
 
 use device::Made;
 use frames::Step;
-use log::Answer;
+use loglines::Answer;
 use state::{BeginAnswer, CacheState, EndAnswer, FetchAnswer, HostWriteAnswer, OwnWriteAnswer};
 
 fn begun(answer: BeginAnswer) -> Answer

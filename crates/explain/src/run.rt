@@ -175,12 +175,12 @@ fn tell_frame<O: Write, E: Write>(
     let delivered = &destination[..n];
     let next = put_words(line, at, frame, answer, &before, state, delivered);
     let kept = write(streams, line, next, wanted);
-    let logged = log::put_line(line, 0, number, carried.letter, answer, delivered);
+    let logged = loglines::put_line(line, 0, number, carried.letter, answer, delivered);
     let met = met(&mut streams.errors, by_lines, place, rest, line, logged);
     Told {
         there: true,
         taken: carried.taken,
-        accepted: log::is_accepted(answer),
+        accepted: loglines::is_accepted(answer),
         kept,
         held: has_held(met),
         failed: has_failed(met),

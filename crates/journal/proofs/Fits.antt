@@ -24,7 +24,7 @@ use Rattle.cache.specs.HostWrite.{host_says}
 use Rattle.cache.specs.OwnWrite.{own_says}
 use Rattle.cache.specs.Runs.{Call, begin, fetch, end, host_write, own_write, show, Machine, says, dest_after, wanted, delivers}
 use Rattle.cache.proofs.Accepted.{ended, fetched, own_fetched}
-use Rattle.log.proofs.Lengths.{Short, refusal, none, one, two, line_short}
+use Rattle.loglines.proofs.Lengths.{Short, refusal, none, one, two, line_short}
 use Rattle.device.specs.Step.{Device, call_of}
 use Rattle.device.specs.Frame.{is_readable, taken_up, step_read, letter_of, frame_call, frame_says, frame_delivers}
 use Rattle.journal.specs.Claims.{LineFits}

@@ -15,7 +15,7 @@ use Rattle.frames.specs.Layout.{fields_of}
 use Rattle.frames.proofs.Accepted.{readable, reads}
 use Rattle.octets.specs.Lists.{count}
 use Rattle.octets.specs.Text.{Puts}
-use Rattle.log.specs.Line.{line_of}
+use Rattle.loglines.specs.Line.{line_of}
 use Rattle.text.proofs.Putting.{puts_is, puts_none, puts_both}
 use Rattle.device.specs.Step.{Device, device_of}
 use Rattle.device.specs.Frame.{is_readable, taken_up, letter_of, frame_says, frame_leaves, frame_delivers}

@@ -3,7 +3,7 @@ use Rattle.std.specs.Prelude.{ℕ, zero, suc, ◌+◌, ◌^◌, ◌≤◌, ◌<�
 use Rattle.cache.specs.Runs.{Call, says, delivers, along, ran}
 use Rattle.history.specs.Journal.{journal, told}
 use Rattle.history.specs.Firsts.{First, firsts, owed}
-use Rattle.log.specs.Line.{line_of}
+use Rattle.loglines.specs.Line.{line_of}
 use Rattle.device.specs.Step.{Device}
 use Rattle.device.specs.Frame.{is_readable, taken_up, letter_of, frame_call, frame_says, frame_leaves, frame_delivers}
 use Rattle.journal.specs.Run.{Entry, entries, journal_leaves, fresh_device, log_from}

@@ -5,7 +5,7 @@ use Rattle.state.specs.Verdict.{Reply, accepted}
 use Rattle.cache.specs.Runs.{start}
 use Rattle.octets.specs.Lists.{count}
 use Rattle.octets.specs.Text.{Puts}
-use Rattle.log.specs.Line.{line_of}
+use Rattle.loglines.specs.Line.{line_of}
 use Rattle.journal.specs.declared.Replayed.{Replayed}
 use Rattle.device.specs.Step.{Device, device_of}
 use Rattle.device.specs.Frame.{is_readable, taken_up, letter_of, frame_says, frame_leaves, frame_delivers}

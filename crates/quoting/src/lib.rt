@@ -1,5 +1,6 @@
 // A text as a message shows it: cut, and with what is no printable character in hexadecimal.
 #![tactic(auto)]
+
 ghost use Rattle.std.specs.Prelude.{◌≡◌, length, get_or};
 ghost use Rattle.octets.specs.Text.{Puts};
 ghost use Rattle.quoting.specs.Quoting.{is_plain, quoted_byte, quoted};

@@ -1,5 +1,6 @@
 // Text that is read: places with a byte of a class, words, and the numbers and bytes that words stand for.
 #![tactic(auto)]
+
 mod classes;
 mod places;
 mod values;
@@ -8,7 +9,7 @@ pub use places::{has_word, starts, until};
 pub use values::{decode, value};
 
 // Where a scan of a text stops: at a byte of this class.
-#[derive(Drop)]
+#[derive(Clone, Copy)]
 pub enum Stop {
     LineEnd,
     Comment,

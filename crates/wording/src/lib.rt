@@ -1,7 +1,7 @@
 // What was read of a frame and what came of it, in words.
 #![tactic(auto)]
 use frames::{ReadAnswer, Step};
-use log::Answer;
+use loglines::Answer;
 use octets::put;
 use phrases::{put_asked, put_done, put_refused};
 use state::CacheState;

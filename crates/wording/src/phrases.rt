@@ -7,7 +7,7 @@ ghost use Rattle.wording.specs.Words.{span, act, asked, turned_away};
 use crate::parts::{find, put_parts, put_span};
 use counting::put_count;
 use frames::Step;
-use log::Answer;
+use loglines::Answer;
 use octets::put;
 use state::{CacheState, Refusal};
 use text::put_decimal;

@@ -24,7 +24,7 @@ use Rattle.frames.specs.Read.{fields_say, read_says}
 use Rattle.octets.specs.Text.{ascii}
 use Rattle.text.specs.Decimal.{digits, decimal}
 use Rattle.text.specs.Hexadecimal.{hex_digits, hexadecimal}
-use Rattle.log.specs.Line.{delivered_fields, answer_fields, spaced, line_of}
+use Rattle.loglines.specs.Line.{delivered_fields, answer_fields, spaced, line_of}
 
 worked :
     log_from 1 (entries (fresh_device (replicate 32768 0) (replicate 16384 0) (replicate 4096 0))

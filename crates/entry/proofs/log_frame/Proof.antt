@@ -5,7 +5,7 @@ use mathlib.Core.List.{List}
 use lib.Seq.{length-take-le}
 use borrow.Author.Rules.{rules}
 use Rattle.state.specs.Verdict.{Reply, accepted}
-use Rattle.log.specs.Line.{line_of}
+use Rattle.loglines.specs.Line.{line_of}
 use Rattle.text.proofs.Putting.{puts_is}
 use Rattle.entry.proofs.log_frame.Statement.{statement}
 use Rattle.entry.proofs.log_frame.Tie as tie

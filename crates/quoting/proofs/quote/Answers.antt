@@ -42,7 +42,7 @@ loop-i-init c =
     let size : c.lesser-n.result ≡ min (length text) 60 = c.lesser-n.ensures in
     let first = c.put-next in
     let size = c.lesser-n.ensures in
-    (omega (arith, size), omega arith, refl, puts_none first.new.0 first.result first.result (omega (arith, first.ensures.next, puts_length first.ensures)))
+    (omega (arith, size), omega arith, refl, puts_none first.new.out first.result first.result (omega (arith, first.ensures.next, puts_length first.ensures)))
 
 pub quote_byte-next-requires : goal.quote_byte-next-requires
 quote_byte-next-requires c =

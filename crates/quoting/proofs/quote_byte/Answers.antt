@@ -27,11 +27,9 @@ escaped (x ∷ (y ∷ rest)) one e = absurd (omega arith)
 pub returns-then-is_plain : goal.returns-then-is_plain
 returns-then-is_plain c =
     let text : List ℕ = c.args.text.now in
-    let is : c.is_plain.result ≡ b → is_plain (get_or text 0 0) ≡ b = λ e. sym c.is_plain.ensures ∙ e in
-    puts_is c.put.ensures (plain (text) c.requires (is c.if-is_plain.true))
+    puts_is c.put.ensures (plain text c.requires (sym c.is_plain.ensures ∙ c.if-is_plain.true))
 
 pub returns : goal.returns
 returns c =
     let text : List ℕ = c.args.text.now in
-    let is : c.is_plain.result ≡ b → is_plain (get_or text 0 0) ≡ b = λ e. sym c.is_plain.ensures ∙ e in
-    puts_is (puts_both c.put-next.ensures c.put_hex.ensures) (escaped (text) c.requires (is c.if-is_plain.false))
+    puts_is (puts_both c.put-next.ensures c.put_hex.ensures) (escaped text c.requires (sym c.is_plain.ensures ∙ c.if-is_plain.false))
