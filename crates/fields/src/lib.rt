@@ -1,12 +1,13 @@
 // The fields of a line of steps: words that stand for numbers, and one that stands for data; what they mean for a kind of step.
 #![tactic(auto)]
+
 mod meanings;
 mod words;
 
 pub use meanings::meaning_of;
 
 // What is wrong with a field or a line.
-#[derive(Drop)]
+#[derive(Clone, Copy)]
 pub enum Fault {
     Sound,
     UnknownLetter,
@@ -23,7 +24,7 @@ pub enum Fault {
 }
 
 // A field: the number that it gives, the place behind it, and what is wrong with it.
-#[derive(Drop)]
+#[derive(Clone, Copy)]
 pub struct Field {
     pub value: usize,
     pub next: usize,
@@ -31,7 +32,7 @@ pub struct Field {
 }
 
 // The numbers of a step, and how many bytes of data are given with it.
-#[derive(Drop)]
+#[derive(Clone, Copy)]
 pub struct Step {
     pub kind: usize,
     pub command: usize,
@@ -40,7 +41,7 @@ pub struct Step {
     pub given: usize,
 }
 
-#[derive(Drop)]
+#[derive(Clone, Copy)]
 pub enum Meaning {
     // no more than blanks and a comment
     Nothing,

@@ -4,7 +4,7 @@ ghost use Rattle.octets.specs.Lists.{overwrite};
 ghost use Rattle.frames.specs.Bits.{bits, pack, unpack, fit};
 ghost use Rattle.frames.specs.Layout.{field_widths, byte_widths, head_size, fields_of, head_fields};
 
-#[derive(Drop)]
+#[derive(Clone, Copy)]
 pub(crate) struct Head {
     pub kind: usize,
     pub command: usize,

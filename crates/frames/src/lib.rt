@@ -10,7 +10,7 @@ mod writer;
 pub use reader::{data, read};
 pub use writer::write;
 
-#[derive(Drop)]
+#[derive(Clone, Copy)]
 pub enum Step {
     Begin {
         command: usize,
@@ -35,19 +35,19 @@ pub enum Step {
 }
 
 // A step, and how many bytes of the frame it took up.
-#[derive(Drop)]
+#[derive(Clone, Copy)]
 pub struct Parsed {
     pub consumed: usize,
     pub step: Step,
 }
 
-#[derive(Drop)]
+#[derive(Clone, Copy)]
 pub enum ReadAnswer {
     Step(Parsed),
     Refused(Refusal),
 }
 
-#[derive(Drop)]
+#[derive(Clone, Copy)]
 pub enum WriteAnswer {
     // how many bytes the frame has
     Written(usize),

@@ -18,7 +18,7 @@ pub use answer::{
 pub use refusal::Refusal;
 
 // A run of held addresses. An address is below 65,536 and a record holds at most 4,096 bytes, so 16 bits serve for both.
-#[derive(Drop)]
+#[derive(Clone, Copy)]
 pub struct Record {
     pub start: u16,
     pub len: u16,
@@ -26,7 +26,7 @@ pub struct Record {
 
 // How a span lies among the records of a command. It meets those from `first` up to `last`, which together with the span
 // reach from `low` up to `high`. The records before them hold `below` bytes, and those that are met hold `held`.
-#[derive(Drop)]
+#[derive(Clone, Copy)]
 pub struct Meeting {
     pub first: usize,
     pub last: usize,
@@ -45,7 +45,7 @@ pub struct CacheState {
 }
 
 // The limits of the device, side by side, and how many words a command and a state have.
-#[derive(Drop)]
+#[derive(Clone, Copy)]
 pub struct Limits {
     pub commands: usize,
     pub records: usize,

@@ -1,5 +1,6 @@
 // Steps in readable form, one a line: what a line says, and the frame that it stands for.
 #![tactic(auto)]
+
 use fields::Fault;
 use state::Refusal;
 
@@ -10,7 +11,7 @@ pub use frame::frame_of;
 pub use line::parse;
 
 // What became of a line.
-#[derive(Drop)]
+#[derive(Clone, Copy)]
 pub enum Framed {
     Nothing,
     // how many bytes the frame has

@@ -20,7 +20,7 @@ pub returns-in-Refused : goal.returns-in-Refused
 unfolding accepted begin_state begin_store
 returns-in-Refused c =
     let said : Reply = begin_says (state_of c.args.state.now) (length c.args.store.now) c.args.command in
-    let says = says_of begin_reply c.judge-answer.ensures c.answer-1.given.1 in
+    let says = says_of begin_reply c.judge-answer.ensures c.in-Refused.is in
     let no : accepted (said) ≡ false = ap accepted says in
     record { answer = sym says; state = rw no; kept = λ e. refl; bytes = rw no }
 

@@ -19,7 +19,7 @@ pub returns-in-Refused : goal.returns-in-Refused
 unfolding accepted end_state end_store
 returns-in-Refused c =
     let said : Reply = end_says (state_of c.args.state.now) (length c.args.store.now) c.args.command in
-    let says = says_of end_reply c.judge-answer.ensures c.answer-1.given.1 in
+    let says = says_of end_reply c.judge-answer.ensures c.in-Refused.is in
     let no : accepted (said) ≡ false = ap accepted says in
     record { answer = sym says; state = rw no; kept = λ e. refl; bytes = rw no }
 
@@ -27,12 +27,12 @@ pub returns-in-Done : goal.returns-in-Done
 unfolding end_state end_store accepted
 returns-in-Done c =
     let said : Reply = end_says (state_of c.args.state.now) (length c.args.store.now) c.args.command in
-    let taken : accepted (said) ≡ true = ap accepted (says_of end_reply c.judge-answer.ensures c.answer-in-Done-1.given.1) in
+    let taken : accepted (said) ≡ true = ap accepted (says_of end_reply c.judge-answer.ensures c.in-Done.is) in
     let ready : Ready (state_of c.args.state.now) (length c.args.store.now) c.args.command = ended _ _ _ taken in
     let a = c.args in
     let reset = c.reset in
     record {
-      answer = sym (says_of end_reply c.judge-answer.ensures c.answer-in-Done-1.given.1);
+      answer = sym (says_of end_reply c.judge-answer.ensures c.in-Done.is);
       state = returned_state a.state.now a.command c.requires (ready).command reset.new.words reset.ensures.1
           ∙ ap (with_command (state_of a.state.now) a.command) reset.ensures.0 ∙ rw (taken);
       kept = λ no. absurd (false≢true (sym no ∙ taken));
@@ -43,7 +43,7 @@ pub zero-requires : goal.zero-requires
 unfolding accepted
 zero-requires c =
     let said : Reply = end_says (state_of c.args.state.now) (length c.args.store.now) c.args.command in
-    let taken : accepted (said) ≡ true = ap accepted (says_of end_reply c.judge-answer.ensures c.answer-in-Done-1.given.1) in
+    let taken : accepted (said) ≡ true = ap accepted (says_of end_reply c.judge-answer.ensures c.in-Done.is) in
     let ready : Ready (state_of c.args.state.now) (length c.args.store.now) c.args.command = ended _ _ _ taken in
     let r = ready in (r.command, r.size, omega arith)
 
@@ -51,7 +51,7 @@ pub overflow_mul-low : goal.overflow_mul-low
 unfolding accepted
 overflow_mul-low c =
     let said : Reply = end_says (state_of c.args.state.now) (length c.args.store.now) c.args.command in
-    let taken : accepted (said) ≡ true = ap accepted (says_of end_reply c.judge-answer.ensures c.answer-in-Done-1.given.1) in
+    let taken : accepted (said) ≡ true = ap accepted (says_of end_reply c.judge-answer.ensures c.in-Done.is) in
     let ready : Ready (state_of c.args.state.now) (length c.args.store.now) c.args.command = ended _ _ _ taken in
     let in_range : c.args.command < command_limit = (ready).command in
     let low = in_range in omega arith
@@ -60,7 +60,7 @@ pub overflow_add-low : goal.overflow_add-low
 unfolding accepted
 overflow_add-low c =
     let said : Reply = end_says (state_of c.args.state.now) (length c.args.store.now) c.args.command in
-    let taken : accepted (said) ≡ true = ap accepted (says_of end_reply c.judge-answer.ensures c.answer-in-Done-1.given.1) in
+    let taken : accepted (said) ≡ true = ap accepted (says_of end_reply c.judge-answer.ensures c.in-Done.is) in
     let ready : Ready (state_of c.args.state.now) (length c.args.store.now) c.args.command = ended _ _ _ taken in
     let in_range : c.args.command < command_limit = (ready).command in
     let low = in_range in omega arith
@@ -69,7 +69,7 @@ pub offset_bounds-state-low : goal.offset_bounds-state-low
 unfolding accepted
 offset_bounds-state-low c =
     let said : Reply = end_says (state_of c.args.state.now) (length c.args.store.now) c.args.command in
-    let taken : accepted (said) ≡ true = ap accepted (says_of end_reply c.judge-answer.ensures c.answer-in-Done-1.given.1) in
+    let taken : accepted (said) ≡ true = ap accepted (says_of end_reply c.judge-answer.ensures c.in-Done.is) in
     let ready : Ready (state_of c.args.state.now) (length c.args.store.now) c.args.command = ended _ _ _ taken in
     let in_range : c.args.command < command_limit = (ready).command in
     let low = in_range in omega arith
@@ -78,7 +78,7 @@ pub slice_bounds-reset-end : goal.slice_bounds-reset-end
 unfolding accepted
 slice_bounds-reset-end c =
     let said : Reply = end_says (state_of c.args.state.now) (length c.args.store.now) c.args.command in
-    let taken : accepted (said) ≡ true = ap accepted (says_of end_reply c.judge-answer.ensures c.answer-in-Done-1.given.1) in
+    let taken : accepted (said) ≡ true = ap accepted (says_of end_reply c.judge-answer.ensures c.in-Done.is) in
     let ready : Ready (state_of c.args.state.now) (length c.args.store.now) c.args.command = ended _ _ _ taken in
     let in_range : c.args.command < command_limit = (ready).command in
     let low = in_range in omega arith
