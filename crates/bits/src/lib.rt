@@ -1,5 +1,6 @@
 // Words of bits: one bit for each address of a byte map, 64 in a word. No function goes bit by bit.
 #![tactic(auto)]
+
 mod count;
 mod each;
 mod fill;

@@ -132,10 +132,10 @@ keeps_on {m} {x} {byte} K low p on = go p on (accepted (says m p)) refl
 
 keeps_ran : {m : Map} {x byte : ℕ} → Keeps m x byte → x < map_limit → (ps : List Call) → Kept x m ps → Keeps (ran m ps) x byte
 unfolding along ran all
-keeps_ran K low [] on = K
+keeps_ran {m} {x} K low [] on = K
 keeps_ran {m} {x} K low (p ∷ ps) on =
     let rest = all not (along (renews_here x) (after m p) ps) in
-    keeps_ran (keeps_on K low p (not-true _ (and_left (not (renews_here x m p)) rest on))) low ps (and_right (not (renews_here x m p)) rest on)
+    keeps_ran {m = after m p} (keeps_on K low p (not-true _ (and_left (not (renews_here x m p)) rest on))) low ps (and_right (not (renews_here x m p)) rest on)
 
 -- The one law of both claims: what the map holds at an address is delivered by a fetch of it, after any calls that leave it.
 delivered_then :

@@ -1,5 +1,6 @@
 // Counts as a message tells them.
 #![tactic(auto)]
+
 ghost use Rattle.std.specs.Prelude.{◌≡◌};
 ghost use Rattle.octets.specs.Text.{Puts};
 ghost use Rattle.counting.specs.Counting.{counted, told, lost};

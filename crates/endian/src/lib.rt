@@ -1,5 +1,6 @@
 // Numbers that stand in a buffer as bytes, the least byte first.
 #![tactic(auto)]
+
 ghost use Rattle.std.specs.Prelude.{◌≡◌, ◌≤◌, length};
 ghost use Rattle.endian.specs.LittleEndian.{least_first};
 

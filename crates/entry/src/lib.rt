@@ -1,5 +1,6 @@
 // An entry of the log: one frame is carried out, and its line is made.
 #![tactic(auto)]
+
 ghost use Rattle.device.specs.Step.{device_of};
 ghost use Rattle.entry.specs.Logs.{Logs};
 

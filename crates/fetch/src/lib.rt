@@ -1,5 +1,6 @@
 // Fetch: a span is delivered to the destination. What of it was not held before is read from the window, and is held from then on.
 #![tactic(auto)]
+
 ghost use Rattle.std.specs.Prelude.{◌≡◌, [], true, ◌<◌, length};
 ghost use Rattle.state.specs.Verdict.{replied, accepted, verdict};
 ghost use Rattle.cache.specs.Fetch.{admit_checks};

@@ -1,5 +1,6 @@
 // Step frames: the reader and the writer.
 #![tactic(auto)]
+
 use state::Refusal;
 
 mod checks;

@@ -3,14 +3,14 @@ use Prim.Native.Nat.{ℕ, suc, ◌+◌, ◌≤◌}
 use native.Mathlib.Omega.{arith}
 use mathlib.Core.Path.{◌≡◌, refl, ap, ap₂, fun_ext, ◌∙◌}
 use mathlib.Core.List.{List, [], ◌∷◌, ◌++◌}
-use mathlib.Core.Bool.{Bool, true, false, cond, not, ◌||◌}
+use mathlib.Core.Bool.{Bool, true, false, not, ◌||◌}
 use lib.Dec.{ltb}
 use lib.ListN.{length, get_or}
 use Rattle.octets.specs.Lists.{count}
 use borrow.Author.Tests.{ltb-false, not-false}
 use Rattle.state.specs.declared.Record.{Record}
 use Rattle.state.specs.Limits.{window_limit}
-use Rattle.state.specs.Records.{past as pastRecord, in_span, held, span, total, place, count_fresh, fresh, count_held, replayed, joined, looked}
+use Rattle.state.specs.Records.{past as pastRecord, in_span, held, span, total, place, fresh, replayed, joined, looked}
 use Rattle.state.specs.Runs.{runs}
 use Rattle.state.specs.State.{State, records_of, is_open, ascending, holds, no_record}
 use Rattle.state.specs.Verdict.{Reply, replied, Check, ◌⇒◌, verdict}

@@ -1,7 +1,7 @@
 -- A fetch and an own write of length 0 leave everything as it was given.
 use Prim.Native.Nat.{ℕ, ◌+◌}
 use native.Mathlib.Omega.{arith}
-use mathlib.Core.Path.{◌≡◌, refl, ap, sym, fun_ext, ◌∙◌}
+use mathlib.Core.Path.{◌≡◌, refl, sym, fun_ext, ◌∙◌}
 use mathlib.Core.List.{List, []}
 use mathlib.Core.Bool.{Bool, true, false, false≢true, ◌&&◌}
 use lib.Dec.{leb, ltb}

@@ -40,7 +40,7 @@ module _ {A : Type 0} (f : Machine → Call → A) (at_each : (m k : Machine) (p
   twins_along : {m k : Machine} {ps qs : List Call} → Twin m k → Alikes ps qs → along f m ps ≡ along f k qs
   unfolding along
   twins_along T nil = refl
-  twins_along T (next A As) = ap₂ ◌∷◌ (at_each _ _ _ _ T A) (twins_along (twin_after T A) As)
+  twins_along {m} {k} T (next {p} {q} A As) = ap₂ ◌∷◌ (at_each m k p q T A) (twins_along {m = after m p} {k = after k q} (twin_after T A) As)
 
 -- Where f of two deeds is equal, they leave one memory, and g is equal.
 
@@ -58,7 +58,9 @@ module _ {A B : Type 0} (f : Memory → Deed → A) (g : Memory → Deed → B) 
       let agree : accepted (says k q) ≡ ok = ap accepted (sym (says_alike T A)) in
       let here = rw agree at e in
       let (remembered, head) = carries (deed_of ok p) (deed_of ok q) mem (view ok A) (cons_head here) in
-      rw (agree, ← remembered) (ap₂ ◌∷◌ head (carried (remember mem (deed_of ok p)) (twin_after T A) As (rw (← remembered) at (cons_tail here))))
+      rw (agree, ← remembered)
+      (ap₂ ◌∷◌ head
+      (carried {m = after m p} {k = after k q} (remember mem (deed_of ok p)) (twin_after T A) As (rw (← remembered) at (cons_tail here))))
 
 owed_carries : Carries owed_by firsts_by
 unfolding owed_by firsts_by
@@ -127,7 +129,8 @@ stores_equal {m} {k} mem is S (next {p} {q} {ps} {qs} A As) e =
     let (remembered, head) = firsts_carry (deed_of ok p) (deed_of ok q) mem (view ok A) (cons_head here) in
     let stores : store_after m p ≡ store_after k q = stores_alike mem ok S A refl (cons_head here) ∙ ap (λ (j : Machine). store_after j q) is in
     ap₂ ◌∷◌ stores
-    (stores_equal (remember mem (deed_of ok p)) (λ i. record { state = state_alike (twin is) A i; store = stores i }) (sound_after m mem p ok refl S) As
+    (stores_equal {m = after m p} {k = after k q} (remember mem (deed_of ok p))
+    (λ i. record { state = state_alike (twin is) A i; store = stores i }) (sound_after m mem p ok refl S) As
     (rw (← remembered) at (cons_tail here)))
 
 -- The rule, of equal lengths

@@ -2,6 +2,7 @@
 // were not held before are taken from a source, and the union goes into the command's words. These are lent to be changed only after the
 // verdict.
 #![tactic(auto)]
+
 ghost use Rattle.std.specs.Prelude.{length};
 ghost use Rattle.holding.specs.Holding.{MayHold, Holds};
 

@@ -1,5 +1,6 @@
 // Host write: bytes are copied into the window.
 #![tactic(auto)]
+
 ghost use Rattle.std.specs.Prelude.{◌≡◌, length};
 ghost use Rattle.state.specs.Answers.{host_write_reply};
 ghost use Rattle.cache.specs.HostWrite.{host_says, host_window};

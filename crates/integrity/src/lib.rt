@@ -1,5 +1,6 @@
 // Whether a state holds together, read in place.
 #![tactic(auto)]
+
 ghost use Rattle.std.specs.Prelude.{◌≡◌, ◌<◌, ◌≤◌, ◌&&◌, length, drop, nat_le, nat_lt};
 ghost use Rattle.octets.specs.Lists.{all, all_zero};
 ghost use Rattle.state.specs.Limits.{record_limit, held_limit, command_words, state_words};

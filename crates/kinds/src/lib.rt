@@ -1,5 +1,6 @@
 // The table of kinds of steps, a constant for each of its columns, indexed by kind.
 #![tactic(auto)]
+
 ghost use Rattle.std.specs.Prelude.{◌≡◌};
 ghost use Rattle.kinds.specs.Table.{is_kind, kind_of};
 

@@ -2,6 +2,7 @@
 // if its byte is held, and a value; a word says whether the command is open. The calls change the three where they stand. Fetch and own write
 // are in `mapfetch` and `mapwrite`.
 #![tactic(auto)]
+
 ghost use Rattle.std.specs.Prelude.{◌≡◌};
 ghost use Rattle.bytemap.specs.Map.{fresh, map_of};
 

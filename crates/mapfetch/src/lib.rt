@@ -1,6 +1,7 @@
 // The byte map's fetch: a span is delivered to the destination. What of it was not held before is read from the window, and is held from
 // then on.
 #![tactic(auto)]
+
 ghost use Rattle.std.specs.Prelude.{◌≡◌, length};
 ghost use Rattle.bits.specs.Bits.{word_limit, map_limit};
 ghost use Rattle.bytemap.specs.Map.{map_of};

@@ -1,6 +1,7 @@
 // The byte map's own write: bytes go into the window, and the command holds them from then on, over older values too. No byte of the window
 // is read.
 #![tactic(auto)]
+
 ghost use Rattle.std.specs.Prelude.{◌≡◌, ◌||◌, ◌+◌, ◌≤◌, length};
 ghost use Rattle.octets.specs.Lists.{overwrite};
 ghost use Rattle.state.specs.Records.{in_span};

@@ -1,5 +1,6 @@
 // The smaller and the larger of two numbers, a difference that stops at 0, and a truth value as a number.
 #![tactic(auto)]
+
 ghost use Rattle.std.specs.Prelude.{◌≡◌, cond, ◌-◌, ◌≤◌, min, max};
 
 pub fn lesser(a: usize, b: usize) -> usize

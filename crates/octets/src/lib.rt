@@ -1,6 +1,7 @@
 // Byte buffers as lists: definitions in specs/, the laws on lists that the toolchain lacks in proofs/.
 // The functions set, copy and move bytes in a buffer, and put text into one. Each takes every input: what does not fit is left out.
 #![tactic(auto)]
+
 mod copy;
 mod fill;
 mod shift;

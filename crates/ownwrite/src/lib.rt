@@ -1,6 +1,7 @@
 // Own write: an open command writes bytes into the window, and holds them as if it had fetched them there. What is held comes from the bytes
 // that are given, and the window is not read.
 #![tactic(auto)]
+
 ghost use Rattle.std.specs.Prelude.{◌≡◌, [], true, cond, ◌+◌, ◌<◌, ◌≤◌, leb, length};
 ghost use Rattle.octets.specs.Lists.{overwrite};
 ghost use Rattle.state.specs.Verdict.{replied, accepted, verdict};

@@ -1,5 +1,6 @@
 // A whole journal is run, and its log is made, as `journal` defines it.
 #![tactic(auto)]
+
 ghost use Rattle.device.specs.Step.{device_of};
 ghost use Rattle.journal.specs.Run.{Replays};
 

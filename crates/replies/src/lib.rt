@@ -1,6 +1,7 @@
 // The replies for C: what a call answers as a small struct by value that begins with its status, 0 or the number of a refusal; of a refused
 // call the other members are 0.
 #![tactic(auto)]
+
 mod calls;
 mod frame;
 mod status;

@@ -1,5 +1,6 @@
 // Show: a record of an open command.
 #![tactic(auto)]
+
 ghost use Rattle.std.specs.Prelude.{◌≡◌, length};
 ghost use Rattle.state.specs.Limits.{state_words};
 ghost use Rattle.state.specs.Words.{state_of};

@@ -2,6 +2,7 @@
 // words of a state stand for, and laws in proofs/ say what its records do. The code that reads and changes the words is in `words`,
 // `integrity` and `join`.
 #![tactic(auto)]
+
 ghost use Rattle.std.specs.Prelude.{◌≡◌};
 ghost use Rattle.state.specs.Limits.{limits};
 ghost use Rattle.state.specs.State.{fresh_state};

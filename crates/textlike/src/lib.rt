@@ -1,5 +1,6 @@
 // Does an input look like text? Steps do, and frames do not.
 #![tactic(auto)]
+
 ghost use Rattle.std.specs.Prelude.{◌≡◌, get_or};
 ghost use Rattle.octets.specs.Lists.{all};
 ghost use Rattle.textlike.specs.Texts.{is_text, is_mark, looks_like_text};

@@ -59,7 +59,7 @@ returns-then-m-minus-gt-RECORDS c =
     let bytes : m.below + m.held + c.held_from-behind.result + c.minus-fresh.result ≡ bytes_of p j = omega (arith, bytes_are p a n m met, fresh_is, c.held_from-behind.ensures) in
     let room : bytes_of (p) (j) ≤ held_limit = omega (arith, bytes) in
     let number : (m).first + 1 + c.minus.result ≡ (j).command.count = ap (λ (k : ℕ). (m).first + 1 + k) (c.minus.ensures ∙ ap (λ (k : ℕ). k - (m).last) c.used-n.ensures.0)
-        ∙ count_is (p) (a) (n) (m) (met) in
+    ∙ count_is (p) (a) (n) (m) (met) in
     record { bytes = room; many = omega (arith, number) }
 
 pub returns : goal.returns
@@ -74,7 +74,7 @@ returns c =
     let bytes : m.below + m.held + c.held_from-behind.result + c.minus-fresh.result ≡ bytes_of p j = omega (arith, bytes_are p a n m met, fresh_is, c.held_from-behind.ensures) in
     let room : bytes_of (p) (j) ≤ held_limit = omega (arith, bytes) in
     let number : (m).first + 1 + c.minus.result ≡ (j).command.count = ap (λ (k : ℕ). (m).first + 1 + k) (c.minus.ensures ∙ ap (λ (k : ℕ). k - (m).last) c.used-n.ensures.0)
-        ∙ count_is (p) (a) (n) (m) (met) in
+    ∙ count_is (p) (a) (n) (m) (met) in
     record {
       meets = meets (p) (a) (n) (m) (met);
       new = fresh_is ∙ new_is (p) (a) (n) (m) (met);

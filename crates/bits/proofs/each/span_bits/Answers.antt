@@ -13,7 +13,7 @@ overflow_sub-result c =
     let ends : c.first_bits.result ≡ word_of (λ j. ltb j (c.args.high - 64 * c.args.i)) 64 = c.first_bits.ensures ∙ ap (λ (n : ℕ). word_of (λ j. ltb j n) 64) c.minus.ensures in
     let starts : c.first_bits-2.result ≡ word_of (λ j. ltb j (c.args.low - 64 * c.args.i)) 64 = c.first_bits-2.ensures ∙ ap (λ (n : ℕ). word_of (λ j. ltb j n) 64) c.minus-2.ensures in
     let sum : word_of (λ j. in_span c.args.low (c.args.high - c.args.low) (64 * c.args.i + j)) 64 + c.first_bits-2.result
-        ≡ c.first_bits.result = omega (arith, ends, starts, span_word (64 * c.args.i) c.args.low c.args.high 64 (omega arith)) in
+    ≡ c.first_bits.result = omega (arith, ends, starts, span_word (64 * c.args.i) c.args.low c.args.high 64 (omega arith)) in
     omega (arith, sum)
 
 pub returns : goal.returns
@@ -21,5 +21,5 @@ returns c =
     let ends : c.first_bits.result ≡ word_of (λ j. ltb j (c.args.high - 64 * c.args.i)) 64 = c.first_bits.ensures ∙ ap (λ (n : ℕ). word_of (λ j. ltb j n) 64) c.minus.ensures in
     let starts : c.first_bits-2.result ≡ word_of (λ j. ltb j (c.args.low - 64 * c.args.i)) 64 = c.first_bits-2.ensures ∙ ap (λ (n : ℕ). word_of (λ j. ltb j n) 64) c.minus-2.ensures in
     let sum : word_of (λ j. in_span c.args.low (c.args.high - c.args.low) (64 * c.args.i + j)) 64 + c.first_bits-2.result
-        ≡ c.first_bits.result = omega (arith, ends, starts, span_word (64 * c.args.i) c.args.low c.args.high 64 (omega arith)) in
+    ≡ c.first_bits.result = omega (arith, ends, starts, span_word (64 * c.args.i) c.args.low c.args.high 64 (omega arith)) in
     omega (arith, sum)

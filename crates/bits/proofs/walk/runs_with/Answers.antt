@@ -13,7 +13,7 @@ returns c =
     let test : ℕ → Bool = either c.args.words.now c.args.low c.args.high in
     let known : Words c.args.words.now = record { size = omega arith; small = λ i. (c.shared_slice_known-1.given i).fits } in
     let below : Walked (test) c.walk_on-below.result (c.args.low / 64) = let a = c.args in
-        c.walk_on-below.ensures (test) (λ j h i. kept_below a.words.now (known) a.low a.high (omega arith) j i) (walk_from (test)) in
+    c.walk_on-below.ensures (test) (λ j h i. kept_below a.words.now (known) a.low a.high (omega arith) j i) (walk_from (test)) in
     let over : Walked (test) c.walk_span-over.result ((c.args.high + 63) / 64) = c.walk_span-over.ensures (below) in
     let a = c.args in
     walk_all (test) c.walk_on-w.result
@@ -24,7 +24,7 @@ walk_span-over-requires c =
     let test : ℕ → Bool = either c.args.words.now c.args.low c.args.high in
     let known : Words c.args.words.now = record { size = omega arith; small = λ i. (c.shared_slice_known-1.given i).fits } in
     let below : Walked (test) c.walk_on-below.result (c.args.low / 64) = let a = c.args in
-        c.walk_on-below.ensures (test) (λ j h i. kept_below a.words.now (known) a.low a.high (omega arith) j i) (walk_from (test)) in
+    c.walk_on-below.ensures (test) (λ j h i. kept_below a.words.now (known) a.low a.high (omega arith) j i) (walk_from (test)) in
     (omega arith, omega arith, omega arith, walk_small (below))
 
 pub walk_on-w-requires : goal.walk_on-w-requires
@@ -32,6 +32,6 @@ walk_on-w-requires c =
     let test : ℕ → Bool = either c.args.words.now c.args.low c.args.high in
     let known : Words c.args.words.now = record { size = omega arith; small = λ i. (c.shared_slice_known-1.given i).fits } in
     let below : Walked (test) c.walk_on-below.result (c.args.low / 64) = let a = c.args in
-        c.walk_on-below.ensures (test) (λ j h i. kept_below a.words.now (known) a.low a.high (omega arith) j i) (walk_from (test)) in
+    c.walk_on-below.ensures (test) (λ j h i. kept_below a.words.now (known) a.low a.high (omega arith) j i) (walk_from (test)) in
     let over : Walked (test) c.walk_span-over.result ((c.args.high + 63) / 64) = c.walk_span-over.ensures (below) in
     (omega arith, omega arith, omega arith, walk_small (over))

@@ -22,14 +22,13 @@ loop-i-preserved c =
     let test : ℕ → Bool = either words c.args.low c.args.high in
     let i : ℕ = c.loop-i.i in
     let word : bit_or (get_or words i 0) c.span_bits-added.result ≡ word_at test i = let known : Words words = record { size = omega arith; small = λ k. (c.shared_slice_known-1.given k).fits } in
-        let mask = c.span_bits-added in
-        either_word words known c.args.low c.args.high (omega arith) i mask.result mask.ensures in
-    (
-  omega arith,
-  omega arith,
-  λ start. walk_on (test) (record { n = c.loop-i.n; carry = c.loop-i.carry }) (i) (c.loop-i.invariant.2 start) _ (word)
-      c.starts-n.result c.starts-n.ensures.0,
-  record { few = omega (arith, c.starts-n.ensures.1); bit = omega (arith, word, word_below (λ j. test (64 * i + j)) 64) },
+    let mask = c.span_bits-added in
+    either_word words known c.args.low c.args.high (omega arith) i mask.result mask.ensures in (
+      omega arith,
+      omega arith,
+      λ start. walk_on (test) (record { n = c.loop-i.n; carry = c.loop-i.carry }) (i) (c.loop-i.invariant.2 start) _ (word)
+          c.starts-n.result c.starts-n.ensures.0,
+      record { few = omega (arith, c.starts-n.ensures.1); bit = omega (arith, word, word_below (λ j. test (64 * i + j)) 64) },
     )
 
 pub returns : goal.returns

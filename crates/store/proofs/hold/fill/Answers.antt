@@ -50,11 +50,11 @@ entry-r-requires c =
     let fits : Fits p m c.args.fresh (length l) b (length w) = c.requires.1 in
     let q : ℕ = c.loop-k.k - 1 in
     let here : Filling (rs) (l) (b) (w) (m).first (m).last (m).low (m).high
-        (suc q) c.loop-k.gap c.loop-k.old c.loop-k.top c.loop-k.part = let k : c.loop-k.k ≡ suc q = omega arith in
-        subst
-        (λ (k : ℕ). Filling (rs) (l) (b) (w) (m).first (m).last (m).low (m).high
-        k c.loop-k.gap c.loop-k.old c.loop-k.top c.loop-k.part)
-        k c.loop-k.invariant in
+    (suc q) c.loop-k.gap c.loop-k.old c.loop-k.top c.loop-k.part = let k : c.loop-k.k ≡ suc q = omega arith in
+    subst
+    (λ (k : ℕ). Filling (rs) (l) (b) (w) (m).first (m).last (m).low (m).high
+    k c.loop-k.gap c.loop-k.old c.loop-k.top c.loop-k.part)
+    k c.loop-k.invariant in
     let inside : q < length (rs) = omega (arith, here.upto, (fits).cut.most) in
     let below : q < 64 = omega (arith, inside, (fits).few) in
     (c.requires.0, below)
@@ -71,22 +71,22 @@ overflow_sub-gap c =
     let fits : Fits p m c.args.fresh (length l) b (length w) = c.requires.1 in
     let q : ℕ = c.loop-k.k - 1 in
     let here : Filling (rs) (l) (b) (w) (m).first (m).last (m).low (m).high
-        (suc q) c.loop-k.gap c.loop-k.old c.loop-k.top c.loop-k.part = let k : c.loop-k.k ≡ suc q = omega arith in
-        subst
-        (λ (k : ℕ). Filling (rs) (l) (b) (w) (m).first (m).last (m).low (m).high
-        k c.loop-k.gap c.loop-k.old c.loop-k.top c.loop-k.part)
-        k c.loop-k.invariant in
+    (suc q) c.loop-k.gap c.loop-k.old c.loop-k.top c.loop-k.part = let k : c.loop-k.k ≡ suc q = omega arith in
+    subst
+    (λ (k : ℕ). Filling (rs) (l) (b) (w) (m).first (m).last (m).low (m).high
+    k c.loop-k.gap c.loop-k.old c.loop-k.top c.loop-k.part)
+    k c.loop-k.invariant in
     let inside : q < length (rs) = omega (arith, here.upto, (fits).cut.most) in
     let first : (m).first ≤ q = omega arith in
     let below : q < 64 = omega (arith, inside, (fits).few) in
     let own : record_at (ws) q ≡ get_or (rs) q no_record = let short : q < (p).count = omega (arith, inside, length-take (p).count (p).records) in
-        sym (get_or-take (p).count (p).records q no_record short ∙ entry_at (ws) q below) in
+    sym (get_or-take (p).count (p).records q no_record short ∙ entry_at (ws) q below) in
     let read : c.entry-r.result ≡ get_or (rs) (q) no_record = c.entry-r.ensures ∙ own in
     let start_is : c.wide-start.result ≡ (get_or (rs) (q) no_record).start = c.wide-start.ensures.0 ∙ ap (λ (r : Record). r.start) read in
     let len_is : c.wide-len.result ≡ (get_or (rs) (q) no_record).len = c.wide-len.ensures.0 ∙ ap (λ (r : Record). r.len) read in
     let turning : Turn (rs) (l) (b) (w) (m).first (m).last (m).low (m).high
-        (q) c.loop-k.gap c.loop-k.old c.loop-k.top c.loop-k.part c.wide-start.result c.wide-len.result = turn (rs) (l) (b) (w) (m) _ (fits).cut (fits).room (q) (inside) _ _ _ _ (here) (first)
-        c.wide-start.result c.wide-len.result start_is len_is in
+    (q) c.loop-k.gap c.loop-k.old c.loop-k.top c.loop-k.part c.wide-start.result c.wide-len.result = turn (rs) (l) (b) (w) (m) _ (fits).cut (fits).room (q) (inside) _ _ _ _ (here) (first)
+    c.wide-start.result c.wide-len.result start_is len_is in
     (turning).ends
 
 pub overflow_sub-gap-in-loop-k : goal.overflow_sub-gap-in-loop-k
@@ -101,22 +101,22 @@ overflow_sub-gap-in-loop-k c =
     let fits : Fits p m c.args.fresh (length l) b (length w) = c.requires.1 in
     let q : ℕ = c.loop-k.k - 1 in
     let here : Filling (rs) (l) (b) (w) (m).first (m).last (m).low (m).high
-        (suc q) c.loop-k.gap c.loop-k.old c.loop-k.top c.loop-k.part = let k : c.loop-k.k ≡ suc q = omega arith in
-        subst
-        (λ (k : ℕ). Filling (rs) (l) (b) (w) (m).first (m).last (m).low (m).high
-        k c.loop-k.gap c.loop-k.old c.loop-k.top c.loop-k.part)
-        k c.loop-k.invariant in
+    (suc q) c.loop-k.gap c.loop-k.old c.loop-k.top c.loop-k.part = let k : c.loop-k.k ≡ suc q = omega arith in
+    subst
+    (λ (k : ℕ). Filling (rs) (l) (b) (w) (m).first (m).last (m).low (m).high
+    k c.loop-k.gap c.loop-k.old c.loop-k.top c.loop-k.part)
+    k c.loop-k.invariant in
     let inside : q < length (rs) = omega (arith, here.upto, (fits).cut.most) in
     let first : (m).first ≤ q = omega arith in
     let below : q < 64 = omega (arith, inside, (fits).few) in
     let own : record_at (ws) q ≡ get_or (rs) q no_record = let short : q < (p).count = omega (arith, inside, length-take (p).count (p).records) in
-        sym (get_or-take (p).count (p).records q no_record short ∙ entry_at (ws) q below) in
+    sym (get_or-take (p).count (p).records q no_record short ∙ entry_at (ws) q below) in
     let read : c.entry-r.result ≡ get_or (rs) (q) no_record = c.entry-r.ensures ∙ own in
     let start_is : c.wide-start.result ≡ (get_or (rs) (q) no_record).start = c.wide-start.ensures.0 ∙ ap (λ (r : Record). r.start) read in
     let len_is : c.wide-len.result ≡ (get_or (rs) (q) no_record).len = c.wide-len.ensures.0 ∙ ap (λ (r : Record). r.len) read in
     let turning : Turn (rs) (l) (b) (w) (m).first (m).last (m).low (m).high
-        (q) c.loop-k.gap c.loop-k.old c.loop-k.top c.loop-k.part c.wide-start.result c.wide-len.result = turn (rs) (l) (b) (w) (m) _ (fits).cut (fits).room (q) (inside) _ _ _ _ (here) (first)
-        c.wide-start.result c.wide-len.result start_is len_is in
+    (q) c.loop-k.gap c.loop-k.old c.loop-k.top c.loop-k.part c.wide-start.result c.wide-len.result = turn (rs) (l) (b) (w) (m) _ (fits).cut (fits).room (q) (inside) _ _ _ _ (here) (first)
+    c.wide-start.result c.wide-len.result start_is len_is in
     (turning).stretch
 
 pub overflow_add-old-in-loop-k : goal.overflow_add-old-in-loop-k
@@ -131,11 +131,11 @@ overflow_add-old-in-loop-k c =
     let fits : Fits p m c.args.fresh (length l) b (length w) = c.requires.1 in
     let q : ℕ = c.loop-k.k - 1 in
     let here : Filling (rs) (l) (b) (w) (m).first (m).last (m).low (m).high
-        (suc q) c.loop-k.gap c.loop-k.old c.loop-k.top c.loop-k.part = let k : c.loop-k.k ≡ suc q = omega arith in
-        subst
-        (λ (k : ℕ). Filling (rs) (l) (b) (w) (m).first (m).last (m).low (m).high
-        k c.loop-k.gap c.loop-k.old c.loop-k.top c.loop-k.part)
-        k c.loop-k.invariant in
+    (suc q) c.loop-k.gap c.loop-k.old c.loop-k.top c.loop-k.part = let k : c.loop-k.k ≡ suc q = omega arith in
+    subst
+    (λ (k : ℕ). Filling (rs) (l) (b) (w) (m).first (m).last (m).low (m).high
+    k c.loop-k.gap c.loop-k.old c.loop-k.top c.loop-k.part)
+    k c.loop-k.invariant in
     let room : c.loop-k.old + c.loop-k.gap ≤ length (l) = filling_room (rs) (l) (b) (w) (m) _ (fits).cut (fits).room _ _ _ _ _ (here) in
     omega (arith, room)
 
@@ -151,22 +151,22 @@ read_host-requires c =
     let fits : Fits p m c.args.fresh (length l) b (length w) = c.requires.1 in
     let q : ℕ = c.loop-k.k - 1 in
     let here : Filling (rs) (l) (b) (w) (m).first (m).last (m).low (m).high
-        (suc q) c.loop-k.gap c.loop-k.old c.loop-k.top c.loop-k.part = let k : c.loop-k.k ≡ suc q = omega arith in
-        subst
-        (λ (k : ℕ). Filling (rs) (l) (b) (w) (m).first (m).last (m).low (m).high
-        k c.loop-k.gap c.loop-k.old c.loop-k.top c.loop-k.part)
-        k c.loop-k.invariant in
+    (suc q) c.loop-k.gap c.loop-k.old c.loop-k.top c.loop-k.part = let k : c.loop-k.k ≡ suc q = omega arith in
+    subst
+    (λ (k : ℕ). Filling (rs) (l) (b) (w) (m).first (m).last (m).low (m).high
+    k c.loop-k.gap c.loop-k.old c.loop-k.top c.loop-k.part)
+    k c.loop-k.invariant in
     let inside : q < length (rs) = omega (arith, here.upto, (fits).cut.most) in
     let first : (m).first ≤ q = omega arith in
     let below : q < 64 = omega (arith, inside, (fits).few) in
     let own : record_at (ws) q ≡ get_or (rs) q no_record = let short : q < (p).count = omega (arith, inside, length-take (p).count (p).records) in
-        sym (get_or-take (p).count (p).records q no_record short ∙ entry_at (ws) q below) in
+    sym (get_or-take (p).count (p).records q no_record short ∙ entry_at (ws) q below) in
     let read : c.entry-r.result ≡ get_or (rs) (q) no_record = c.entry-r.ensures ∙ own in
     let start_is : c.wide-start.result ≡ (get_or (rs) (q) no_record).start = c.wide-start.ensures.0 ∙ ap (λ (r : Record). r.start) read in
     let len_is : c.wide-len.result ≡ (get_or (rs) (q) no_record).len = c.wide-len.ensures.0 ∙ ap (λ (r : Record). r.len) read in
     let turning : Turn (rs) (l) (b) (w) (m).first (m).last (m).low (m).high
-        (q) c.loop-k.gap c.loop-k.old c.loop-k.top c.loop-k.part c.wide-start.result c.wide-len.result = turn (rs) (l) (b) (w) (m) _ (fits).cut (fits).room (q) (inside) _ _ _ _ (here) (first)
-        c.wide-start.result c.wide-len.result start_is len_is in
+    (q) c.loop-k.gap c.loop-k.old c.loop-k.top c.loop-k.part c.wide-start.result c.wide-len.result = turn (rs) (l) (b) (w) (m) _ (fits).cut (fits).room (q) (inside) _ _ _ _ (here) (first)
+    c.wide-start.result c.wide-len.result start_is len_is in
     (turning).inside
 
 pub overflow_sub-old : goal.overflow_sub-old
@@ -181,22 +181,22 @@ overflow_sub-old c =
     let fits : Fits p m c.args.fresh (length l) b (length w) = c.requires.1 in
     let q : ℕ = c.loop-k.k - 1 in
     let here : Filling (rs) (l) (b) (w) (m).first (m).last (m).low (m).high
-        (suc q) c.loop-k.gap c.loop-k.old c.loop-k.top c.loop-k.part = let k : c.loop-k.k ≡ suc q = omega arith in
-        subst
-        (λ (k : ℕ). Filling (rs) (l) (b) (w) (m).first (m).last (m).low (m).high
-        k c.loop-k.gap c.loop-k.old c.loop-k.top c.loop-k.part)
-        k c.loop-k.invariant in
+    (suc q) c.loop-k.gap c.loop-k.old c.loop-k.top c.loop-k.part = let k : c.loop-k.k ≡ suc q = omega arith in
+    subst
+    (λ (k : ℕ). Filling (rs) (l) (b) (w) (m).first (m).last (m).low (m).high
+    k c.loop-k.gap c.loop-k.old c.loop-k.top c.loop-k.part)
+    k c.loop-k.invariant in
     let inside : q < length (rs) = omega (arith, here.upto, (fits).cut.most) in
     let first : (m).first ≤ q = omega arith in
     let below : q < 64 = omega (arith, inside, (fits).few) in
     let own : record_at (ws) q ≡ get_or (rs) q no_record = let short : q < (p).count = omega (arith, inside, length-take (p).count (p).records) in
-        sym (get_or-take (p).count (p).records q no_record short ∙ entry_at (ws) q below) in
+    sym (get_or-take (p).count (p).records q no_record short ∙ entry_at (ws) q below) in
     let read : c.entry-r.result ≡ get_or (rs) (q) no_record = c.entry-r.ensures ∙ own in
     let start_is : c.wide-start.result ≡ (get_or (rs) (q) no_record).start = c.wide-start.ensures.0 ∙ ap (λ (r : Record). r.start) read in
     let len_is : c.wide-len.result ≡ (get_or (rs) (q) no_record).len = c.wide-len.ensures.0 ∙ ap (λ (r : Record). r.len) read in
     let turning : Turn (rs) (l) (b) (w) (m).first (m).last (m).low (m).high
-        (q) c.loop-k.gap c.loop-k.old c.loop-k.top c.loop-k.part c.wide-start.result c.wide-len.result = turn (rs) (l) (b) (w) (m) _ (fits).cut (fits).room (q) (inside) _ _ _ _ (here) (first)
-        c.wide-start.result c.wide-len.result start_is len_is in
+    (q) c.loop-k.gap c.loop-k.old c.loop-k.top c.loop-k.part c.wide-start.result c.wide-len.result = turn (rs) (l) (b) (w) (m) _ (fits).cut (fits).room (q) (inside) _ _ _ _ (here) (first)
+    c.wide-start.result c.wide-len.result start_is len_is in
     (turning).own
 
 pub loop-k-preserved : goal.loop-k-preserved
@@ -211,22 +211,22 @@ loop-k-preserved c =
     let fits : Fits p m c.args.fresh (length l) b (length w) = c.requires.1 in
     let q : ℕ = c.loop-k.k - 1 in
     let here : Filling (rs) (l) (b) (w) (m).first (m).last (m).low (m).high
-        (suc q) c.loop-k.gap c.loop-k.old c.loop-k.top c.loop-k.part = let k : c.loop-k.k ≡ suc q = omega arith in
-        subst
-        (λ (k : ℕ). Filling (rs) (l) (b) (w) (m).first (m).last (m).low (m).high
-        k c.loop-k.gap c.loop-k.old c.loop-k.top c.loop-k.part)
-        k c.loop-k.invariant in
+    (suc q) c.loop-k.gap c.loop-k.old c.loop-k.top c.loop-k.part = let k : c.loop-k.k ≡ suc q = omega arith in
+    subst
+    (λ (k : ℕ). Filling (rs) (l) (b) (w) (m).first (m).last (m).low (m).high
+    k c.loop-k.gap c.loop-k.old c.loop-k.top c.loop-k.part)
+    k c.loop-k.invariant in
     let inside : q < length (rs) = omega (arith, here.upto, (fits).cut.most) in
     let first : (m).first ≤ q = omega arith in
     let below : q < 64 = omega (arith, inside, (fits).few) in
     let own : record_at (ws) q ≡ get_or (rs) q no_record = let short : q < (p).count = omega (arith, inside, length-take (p).count (p).records) in
-        sym (get_or-take (p).count (p).records q no_record short ∙ entry_at (ws) q below) in
+    sym (get_or-take (p).count (p).records q no_record short ∙ entry_at (ws) q below) in
     let read : c.entry-r.result ≡ get_or (rs) (q) no_record = c.entry-r.ensures ∙ own in
     let start_is : c.wide-start.result ≡ (get_or (rs) (q) no_record).start = c.wide-start.ensures.0 ∙ ap (λ (r : Record). r.start) read in
     let len_is : c.wide-len.result ≡ (get_or (rs) (q) no_record).len = c.wide-len.ensures.0 ∙ ap (λ (r : Record). r.len) read in
     let turning : Turn (rs) (l) (b) (w) (m).first (m).last (m).low (m).high
-        (q) c.loop-k.gap c.loop-k.old c.loop-k.top c.loop-k.part c.wide-start.result c.wide-len.result = turn (rs) (l) (b) (w) (m) _ (fits).cut (fits).room (q) (inside) _ _ _ _ (here) (first)
-        c.wide-start.result c.wide-len.result start_is len_is in
+    (q) c.loop-k.gap c.loop-k.old c.loop-k.top c.loop-k.part c.wide-start.result c.wide-len.result = turn (rs) (l) (b) (w) (m) _ (fits).cut (fits).room (q) (inside) _ _ _ _ (here) (first)
+    c.wide-start.result c.wide-len.result start_is len_is in
     (turning).again c.read_host.new.part c.move_up.new.buffer c.read_host.ensures c.move_up.ensures
 
 pub read_host-requires-2 : goal.read_host-requires-2
@@ -240,11 +240,11 @@ read_host-requires-2 c =
     let w : List ℕ = c.args.source.now in
     let fits : Fits p m c.args.fresh (length l) b (length w) = c.requires.1 in
     let none_left : Filling (rs) (l) (b) (w) (m).first (m).last (m).low (m).high
-        (m).first c.loop-k.gap c.loop-k.old c.loop-k.top c.loop-k.part = let all : c.loop-k.k ≡ (m).first = omega (arith, c.loop-k.invariant.from) in
-        subst
-        (λ (k : ℕ). Filling (rs) (l) (b) (w) (m).first (m).last (m).low (m).high
-        k c.loop-k.gap c.loop-k.old c.loop-k.top c.loop-k.part)
-        all c.loop-k.invariant in
+    (m).first c.loop-k.gap c.loop-k.old c.loop-k.top c.loop-k.part = let all : c.loop-k.k ≡ (m).first = omega (arith, c.loop-k.invariant.from) in
+    subst
+    (λ (k : ℕ). Filling (rs) (l) (b) (w) (m).first (m).last (m).low (m).high
+    k c.loop-k.gap c.loop-k.old c.loop-k.top c.loop-k.part)
+    all c.loop-k.invariant in
     last_inside (rs) (l) (b) (w) (m) _ (fits).cut (fits).room _ _ _ _ (none_left)
 
 pub shape_of-part : goal.shape_of-part
@@ -258,13 +258,13 @@ shape_of-part c =
     let w : List ℕ = c.args.source.now in
     let fits : Fits p m c.args.fresh (length l) b (length w) = c.requires.1 in
     let none_left : Filling (rs) (l) (b) (w) (m).first (m).last (m).low (m).high
-        (m).first c.loop-k.gap c.loop-k.old c.loop-k.top c.loop-k.part = let all : c.loop-k.k ≡ (m).first = omega (arith, c.loop-k.invariant.from) in
-        subst
-        (λ (k : ℕ). Filling (rs) (l) (b) (w) (m).first (m).last (m).low (m).high
-        k c.loop-k.gap c.loop-k.old c.loop-k.top c.loop-k.part)
-        all c.loop-k.invariant in
+    (m).first c.loop-k.gap c.loop-k.old c.loop-k.top c.loop-k.part = let all : c.loop-k.k ≡ (m).first = omega (arith, c.loop-k.invariant.from) in
+    subst
+    (λ (k : ℕ). Filling (rs) (l) (b) (w) (m).first (m).last (m).low (m).high
+    k c.loop-k.gap c.loop-k.old c.loop-k.top c.loop-k.part)
+    all c.loop-k.invariant in
     let ended : c.read_host-2.new.part ≡ filled (rs) (m) (l) (b) (w) = c.read_host-2.ensures
-        ∙ filling_end (rs) (l) (b) (w) (m) _ (fits).cut (fits).room _ _ _ _ (none_left) in
+    ∙ filling_end (rs) (l) (b) (w) (m) _ (fits).cut (fits).room _ _ _ _ (none_left) in
     let same : length c.read_host-2.new.part ≡ length (l) = ap length ended ∙ filled_size (rs) (l) (b) (w) (m) _ (fits).cut (fits).room in
     same
 
@@ -279,11 +279,11 @@ returns c =
     let w : List ℕ = c.args.source.now in
     let fits : Fits p m c.args.fresh (length l) b (length w) = c.requires.1 in
     let none_left : Filling (rs) (l) (b) (w) (m).first (m).last (m).low (m).high
-        (m).first c.loop-k.gap c.loop-k.old c.loop-k.top c.loop-k.part = let all : c.loop-k.k ≡ (m).first = omega (arith, c.loop-k.invariant.from) in
-        subst
-        (λ (k : ℕ). Filling (rs) (l) (b) (w) (m).first (m).last (m).low (m).high
-        k c.loop-k.gap c.loop-k.old c.loop-k.top c.loop-k.part)
-        all c.loop-k.invariant in
+    (m).first c.loop-k.gap c.loop-k.old c.loop-k.top c.loop-k.part = let all : c.loop-k.k ≡ (m).first = omega (arith, c.loop-k.invariant.from) in
+    subst
+    (λ (k : ℕ). Filling (rs) (l) (b) (w) (m).first (m).last (m).low (m).high
+    k c.loop-k.gap c.loop-k.old c.loop-k.top c.loop-k.part)
+    all c.loop-k.invariant in
     let ended : c.read_host-2.new.part ≡ filled (rs) (m) (l) (b) (w) = c.read_host-2.ensures
-        ∙ filling_end (rs) (l) (b) (w) (m) _ (fits).cut (fits).room _ _ _ _ (none_left) in
+    ∙ filling_end (rs) (l) (b) (w) (m) _ (fits).cut (fits).room _ _ _ _ (none_left) in
     ended

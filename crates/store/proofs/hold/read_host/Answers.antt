@@ -17,8 +17,8 @@ no_bytes bytes window at room from low high h =
 pub returns-then-low-high : goal.returns-then-low-high
 returns-then-low-high c =
     let inside : (c.args.base ≤ c.args.low)
-        × (c.args.high
-        ≤ c.args.base + length c.args.source.now) = c.requires (omega arith) in
+    × (c.args.high
+    ≤ c.args.base + length c.args.source.now) = c.requires (omega arith) in
     let near = inside in
     let args = c.args in
     let width : args.high - args.base - (args.low - args.base) ≡ args.high - args.low = omega arith in
@@ -35,20 +35,20 @@ returns-else-low-high c =
 pub overflow_sub-low : goal.overflow_sub-low
 overflow_sub-low c =
     let inside : (c.args.base ≤ c.args.low)
-        × (c.args.high
-        ≤ c.args.base + length c.args.source.now) = c.requires (omega arith) in
+    × (c.args.high
+    ≤ c.args.base + length c.args.source.now) = c.requires (omega arith) in
     let near = inside in omega arith
 
 pub overflow_sub-high : goal.overflow_sub-high
 overflow_sub-high c =
     let inside : (c.args.base ≤ c.args.low)
-        × (c.args.high
-        ≤ c.args.base + length c.args.source.now) = c.requires (omega arith) in
+    × (c.args.high
+    ≤ c.args.base + length c.args.source.now) = c.requires (omega arith) in
     let near = inside in omega arith
 
 pub slice_bounds-copy_at-end : goal.slice_bounds-copy_at-end
 slice_bounds-copy_at-end c =
     let inside : (c.args.base ≤ c.args.low)
-        × (c.args.high
-        ≤ c.args.base + length c.args.source.now) = c.requires (omega arith) in
+    × (c.args.high
+    ≤ c.args.base + length c.args.source.now) = c.requires (omega arith) in
     let near = inside in omega arith

@@ -32,7 +32,7 @@ returns-then-not-clean_stretch c =
     let inside : at + many ≤ 64 = omega (arith, c.alike-k.ensures.most) in
     let lent_length : length (take (at + many - at) (drop at values)) ≡ many = simp (length-take, length-drop) (omega (arith, inside)) in
     let tells : c.clean_stretch.result ≡ clean (bit (bits)) (values) (at) (many) = c.clean_stretch.ensures ∙ ap (clean (bit (bits / 2 ^ at)) (take (at + many - at) (drop (at) (values))) 0) (lent_length)
-        ∙ clean_lent (bit (bits / 2 ^ at)) (bit (bits)) (values) (at) (many) (λ j h. bit_shifted (bits) (at) j) in
+    ∙ clean_lent (bit (bits / 2 ^ at)) (bit (bits)) (values) (at) (many) (λ j h. bit_shifted (bits) (at) j) in
     sym (clean_off (bit (bits)) (values) (at) (many) 64 (inside) (sym (tells) ∙ c.if-not-clean_stretch.true))
 
 pub loop-x-preserved : goal.loop-x-preserved
@@ -44,7 +44,7 @@ loop-x-preserved c =
     let inside : at + many ≤ 64 = omega (arith, c.alike-k.ensures.most) in
     let lent_length : length (take (at + many - at) (drop at values)) ≡ many = simp (length-take, length-drop) (omega (arith, inside)) in
     let tells : c.clean_stretch.result ≡ clean (bit (bits)) (values) (at) (many) = c.clean_stretch.ensures ∙ ap (clean (bit (bits / 2 ^ at)) (take (at + many - at) (drop (at) (values))) 0) (lent_length)
-        ∙ clean_lent (bit (bits / 2 ^ at)) (bit (bits)) (values) (at) (many) (λ j h. bit_shifted (bits) (at) j) in
+    ∙ clean_lent (bit (bits / 2 ^ at)) (bit (bits)) (values) (at) (many) (λ j h. bit_shifted (bits) (at) j) in
     (inside, clean_on (bit (bits)) (values) (at) (many) c.loop-x.invariant.1 (sym (tells) ∙ c.if-not-clean_stretch.false))
 
 pub returns : goal.returns

@@ -66,7 +66,7 @@ returns-then-whole-bytes c =
     let inside_out : c.args.at < length out_given = omega arith in
     let out_left : List ℕ = back out_given bytes_given c.args.at whole_found inside_out c.lesser-whole.ensures c.put_pairs.new.out in
     let pairs_put : Puts out_given c.args.at (hexadecimal (take whole_found bytes_given)) (c.args.at + 2 * whole_found) out_left = paired out_given bytes_given c.args.at whole_found inside_out c.lesser-whole.ensures c.put_pairs.new.out
-        c.put_pairs.ensures in
+    c.put_pairs.ensures in
     one_cut (out_given) (bytes_given) c.args.at (whole_found) (inside_out) c.lesser-whole.ensures
     (omega arith)
     (pairs_put)
@@ -80,7 +80,7 @@ returns c =
     let inside_out : c.args.at < length out_given = omega arith in
     let out_left : List ℕ = back out_given bytes_given c.args.at whole_found inside_out c.lesser-whole.ensures c.put_pairs.new.out in
     let pairs_put : Puts out_given c.args.at (hexadecimal (take whole_found bytes_given)) (c.args.at + 2 * whole_found) out_left = paired out_given bytes_given c.args.at whole_found inside_out c.lesser-whole.ensures c.put_pairs.new.out
-        c.put_pairs.ensures in
+    c.put_pairs.ensures in
     all_put (out_given) (bytes_given) c.args.at (whole_found) (inside_out) c.lesser-whole.ensures
     (omega arith)
     (pairs_put)
