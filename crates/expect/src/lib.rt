@@ -1,5 +1,6 @@
 // What is expected of a step, and whether an answer meets it.
 #![tactic(auto)]
+
 ghost use Rattle.std.specs.Prelude.{◌≡◌, [], ◌+◌, ◌≤◌, ltb, eqb, length, drop, get_or};
 ghost use Rattle.scan.specs.Scan.{front};
 ghost use Rattle.expect.specs.Expect.{expected, words_of, lower, same, is_verdict, delivers, meets};
@@ -8,7 +9,7 @@ use numbers::lesser;
 use scan::{Stop, has_word, until};
 
 // A part of a line: its first place, and the one behind its last.
-#[derive(Drop)]
+#[derive(Clone, Copy)]
 pub struct Span {
     pub start: usize,
     pub end: usize,

@@ -8,9 +8,7 @@ use lib.ListN.{length, length-drop}
 use borrow.Author.Tests.{ltb-true, ltb-false, lt-ltb, le-ltb}
 use Rattle.expect.specs.Expect.{words_of}
 use Rattle.expect.proofs.Words.{follows}
-use borrow.Author.Rules.{rules}
-use Rattle.expect.proofs.has_more.Statement.{statement}
-use Rattle.expect.proofs.has_more.Tie as tie
+use Rattle.expect.proofs.has_more.Goals as goal
 
 some_left : (n k : ℕ) → ltb 0 (k - n) ≡ ltb n k
 some_left n k = go (ltb n k) refl
@@ -19,13 +17,9 @@ some_left n k = go (ltb n k) refl
     go true e = lt-ltb 0 (k - n) (omega (arith, ltb-true n k e)) ∙ sym e
     go false e = le-ltb 0 (k - n) (omega (arith, ltb-false n k e)) ∙ sym e
 
-returns : tie.Need-returns
+pub returns : goal.returns
 returns c =
-    let place = c.before in
-    let a = place.before.before.args in
+    let a = c.args in
     let words = words_of a.text.now in
-    let left = rw (place.behind.ensures.1, length-drop a.n words) at (follows a.text.now place.behind.result) in
-    c.Has-word.ensures ∙ left ∙ some_left a.n (length words)
-
-pub has_more_spec : {M : Type 1} → statement M
-has_more_spec = tie.close (tie.spec (λ c κs. search rules) (λ c κs. search rules) returns)
+    let left = rw (c.behind.ensures.rest, length-drop a.n words) at (follows a.text.now c.behind.result) in
+    c.has_word.ensures ∙ left ∙ some_left a.n (length words)
