@@ -1,7 +1,7 @@
 -- A refused frame leaves the device as it was, and every refusal has a number of 01's lists.
 use Prim.Native.Nat.{ℕ}
 use mathlib.Core.Path.{◌≡◌, refl}
-use mathlib.Core.List.{List, [], ◌∷◌}
+use mathlib.Core.List.{List, []}
 use mathlib.Core.Bool.{Bool, true, false}
 use Rattle.octets.specs.Lists.{all}
 use Rattle.state.specs.Verdict.{accepted, contains, keeps_to}

@@ -1,11 +1,12 @@
 // What steps are made on: a state, a store, a window and a destination. What a step and a frame answer and leave: definitions in specs/,
 // proofs of what is claimed of them in proofs/, and here what the code that makes them hands back. That code is in `execution`.
 #![tactic(auto)]
+
 use loglines::Answer;
 
 // How many bytes the frame took up (none if it is unreadable), its letter, the answer, and how many bytes were delivered to the front
 // of the destination.
-#[derive(Drop)]
+#[derive(Clone, Copy)]
 pub struct Carried {
     pub taken: usize,
     pub letter: u8,
@@ -14,7 +15,7 @@ pub struct Carried {
 }
 
 // The answer, and how many bytes were delivered to the front of the destination.
-#[derive(Drop)]
+#[derive(Clone, Copy)]
 pub struct Made {
     pub answer: Answer,
     pub delivered: usize,

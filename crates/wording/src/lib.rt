@@ -1,5 +1,6 @@
 // What was read of a frame and what came of it, in words.
 #![tactic(auto)]
+
 use frames::{ReadAnswer, Step};
 use loglines::Answer;
 use octets::put;
