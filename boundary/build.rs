@@ -1,5 +1,5 @@
-//! Finds the archive of the proved library, which `rt staticlib doorclover`
-//! writes at the root of the repository.
+//! Finds the archive of the proved library, which `./build doorclover` writes
+//! at the root of the repository.
 
 use std::path::Path;
 use std::process::exit;
@@ -10,7 +10,7 @@ fn main() {
     println!("cargo:rerun-if-changed={}", archive.display());
     if !archive.is_file() {
         eprintln!("the proved library is not built: {}", archive.display());
-        eprintln!("run `rt staticlib doorclover` at the root of the repository first");
+        eprintln!("run `./build doorclover` at the root of the repository first");
         exit(1);
     }
     println!("cargo:rustc-link-search=native={}", folder.display());

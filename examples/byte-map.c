@@ -7,7 +7,7 @@
  *
  * Build and run it at the root of the repository:
  *
- *     rt staticlib doorclover
+ *     ./build doorclover
  *     gcc -std=c11 -Iinclude examples/byte-map.c target/staticlib/libdoorclover.a -o byte-map
  *     ./byte-map
  */

@@ -8,7 +8,7 @@
  *
  * Build and run it at the root of the repository:
  *
- *     rt staticlib doorclover
+ *     ./build doorclover
  *     gcc -std=c11 -Iinclude examples/page-list.c target/staticlib/libdoorclover.a -o page-list
  *     ./page-list
  */

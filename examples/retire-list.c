@@ -7,7 +7,7 @@
  *
  * Build and run it at the root of the repository:
  *
- *     rt staticlib doorclover
+ *     ./build doorclover
  *     gcc -std=c11 -Iinclude examples/retire-list.c target/staticlib/libdoorclover.a -o retire-list
  *     ./retire-list
  */

@@ -1,5 +1,6 @@
 // One list page: the entries that are needed of it are one fetch, and are judged where they were delivered.
 #![tactic(auto)]
+
 ghost use Rattle.std.specs.Prelude.{◌≡◌, true, map, ◌*◌, ◌≤◌, length};
 ghost use Rattle.state.specs.Verdict.{accepted};
 ghost use Rattle.prp.specs.Pages.{page_size};

@@ -1,5 +1,6 @@
 // The lists behind PRP2.
 #![tactic(auto)]
+
 ghost use Rattle.std.specs.Prelude.{◌≡◌, true, ◌+◌, ◌-◌, ◌/◌, ◌%◌, ◌≤◌, ◌<◌, length};
 ghost use Rattle.state.specs.Limits.{record_limit};
 ghost use Rattle.state.specs.Verdict.{accepted};

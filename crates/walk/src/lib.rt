@@ -1,6 +1,7 @@
 // The page walk, over NVM Express PRP entries: what is judged before PRP1, the entries gathered, the spans put into the lists, and the scratch
 // zeroed. Every entry of a list comes through the cache.
 #![tactic(auto)]
+
 mod gather;
 mod spans;
 

@@ -1,7 +1,7 @@
 -- The list fetches of walks count as fetches: what is claimed of lists of calls holds of lists with walks.
 use mathlib.Core.Path.{◌≡◌, refl, ap, ◌∙◌}
 use mathlib.Core.List.{List, [], ◌∷◌, map}
-use Rattle.cache.specs.Runs.{Call, Machine, start, along}
+use Rattle.cache.specs.Runs.{Call, Machine, start, after, along}
 use Rattle.history.specs.Journal.{event}
 use Rattle.history.proofs.Delivery.{delivery_rule}
 use Rattle.history.proofs.Counts.{counts_tie, end_sum}
@@ -18,7 +18,7 @@ use Rattle.walks.proofs.Expanded.{walks_are_fetches}
 map_along : {A B : Type 0} (g : A → B) (f : Machine → Call → A) (m : Machine) (ps : List Call) → map g (along f m ps) ≡ along (λ k p. g (f k p)) m ps
 unfolding along
 map_along g f m [] = refl
-map_along g f m (p ∷ ps) = ap (λ (rest : List _). g (f m p) ∷ rest) (map_along g f _ ps)
+map_along g f m (p ∷ ps) = ap (λ (rest : List _). g (f m p) ∷ rest) (map_along g f (after m p) ps)
 
 pub walks_count : WalksCount
 walks_count store ps =
