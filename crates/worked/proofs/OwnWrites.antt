@@ -16,7 +16,7 @@ use Rattle.cache.specs.End.{end_says, end_state, end_store}
 use Rattle.cache.specs.Runs.{Call, begin, fetch, end, own_write, start, says, along, delivers, window_after}
 use Rattle.cache.proofs.Claims.{own_as_fetched}
 use Rattle.history.specs.Journal.{Event, journal, told, backwards}
-use Rattle.history.specs.Firsts.{Value, none, some, remember, memory, write_in, last_write, fetch_in, first_fetch, value_since}
+use Rattle.history.specs.Firsts.{none, some, remember, memory, write_in, last_write, fetch_in, first_fetch, value_since}
 use Rattle.history.specs.Firsts.{First, firsts_among, firsts_by, firsts, owed_by, owed}
 use Rattle.history.specs.Counts.{counts_owed, add, fresh_since, sum_owed}
 use Rattle.history.specs.Claims.{common}
