@@ -1,93 +1,113 @@
 // What a program is asked to do: its one argument, or none.
-use crate::saying::{NOTE, say, say_failed, say_text, tell, within};
-use libc::{PATH_MAX, STDIN_FILENO};
+use crate::naming::open;
+use crate::saying::{NOTE, Streams, say, say_failed, say_text, tell, within};
 use octets::put;
 use quoting::quote;
+use std::env::FillError;
+use std::io;
+use std::io::Write;
+use std::rt::{Env, Files};
 
 // The most bytes of a file name.
-const NAME: usize = PATH_MAX - 1;
+const NAME: usize = 4095;
 
 #[derive(Drop)]
-pub enum Asked {
-    // the descriptor to read
-    Input(i32),
+pub enum Asked<F> {
+    // to read standard input
+    Input,
+    // to read this file
+    File(F),
     // nothing more: what was asked has been told, or what is wrong has been said
     Done,
 }
 
-// Are they the same bytes?
-fn same(text: &[u8], other: &[u8]) -> bool {
-    if text.len() != other.len() {
-        return false;
+// Is argument i this word?
+pub fn is<R: Env>(rt: &R, i: usize, word: &[u8]) -> bool {
+    let mut text = [0u8; NAME];
+    match rt.arg(i, &mut text) {
+        Ok(n) => &text[..n] == word,
+        Err(_) => false,
     }
-    let mut i = 0;
-    while i < text.len() {
-        if text[i] != other[i] {
-            return false;
-        }
-        i += 1;
-    }
-    true
 }
 
-// Is argument i this word?
-pub fn is(i: usize, word: &[u8]) -> bool {
-    let mut text = [0u8; PATH_MAX];
-    let n = os::arg(i, &mut text);
-    same(&text[..n], word)
+// Is there an argument i?
+fn is_given<R: Env>(rt: &R, i: usize) -> bool {
+    let mut text = [0u8; 1];
+    match rt.arg(i, &mut text) {
+        Err(FillError::NotPresent) => false,
+        _ => true,
+    }
 }
 
 // Argument i and those behind it: a file name, or one of the two words that every program knows.
-pub fn arguments(program: &[u8], i: usize, usage: &[u8]) -> Asked {
-    let count = os::arg_count();
-    if count <= i {
-        return Asked::Input(STDIN_FILENO);
-    }
-    if is(i, b"--help") {
-        tell(program, usage);
-        return Asked::Done;
-    }
-    if is(i, b"--version") {
-        tell_version(program);
-        return Asked::Done;
-    }
+pub fn arguments<R: Env + Files, O: Write, E: Write>(
+    rt: &R,
+    streams: &mut Streams<O, E>,
+    program: &[u8],
+    i: usize,
+    usage: &[u8],
+) -> Asked<R::File> {
     let mut name = [0u8; NAME];
-    let n = os::arg(i, &mut name);
-    if os::errno() != 0 {
-        say_wrong(program, b"the file name is too long", b"");
+    let n = match rt.arg(i, &mut name) {
+        Ok(n) => n,
+        Err(FillError::NotPresent) => return Asked::Input,
+        Err(FillError::TooLong) => {
+            say_wrong(
+                &mut streams.errors,
+                program,
+                b"the file name is too long",
+                b"",
+            );
+            return Asked::Done;
+        }
+    };
+    let name = &name[..n];
+    if name == b"--help".as_slice() {
+        tell(streams, program, usage);
         return Asked::Done;
     }
-    if count - i > 1 {
-        say_wrong(program, b"one file at most", b"");
-        say_text(usage);
+    if name == b"--version".as_slice() {
+        tell_version(streams, program);
         return Asked::Done;
     }
-    input(program, &name[..n], usage)
+    if is_given(rt, i.saturating_add(1)) {
+        say_wrong(&mut streams.errors, program, b"one file at most", b"");
+        say_text(&mut streams.errors, usage);
+        return Asked::Done;
+    }
+    input(rt, &mut streams.errors, program, name, usage)
 }
 
-fn tell_version(program: &[u8]) {
+fn tell_version<O: Write, E: Write>(streams: &mut Streams<O, E>, program: &[u8]) {
     let mut text = [0u8; NOTE];
     let next = put(&mut text, 0, program);
     let next = put(&mut text, next, b" 1.0\n");
     let n = within(&text, next);
-    tell(program, &text[..n]);
+    tell(streams, program, &text[..n]);
 }
 
-fn input(program: &[u8], name: &[u8], usage: &[u8]) -> Asked {
-    if same(name, b"-") {
-        return Asked::Input(STDIN_FILENO);
+fn input<R: Files, E: Write>(
+    rt: &R,
+    errors: &mut E,
+    program: &[u8],
+    name: &[u8],
+    usage: &[u8],
+) -> Asked<R::File> {
+    if name == b"-".as_slice() {
+        return Asked::Input;
     }
     if is_option(name) {
-        say_wrong(program, b"unknown option ", name);
-        say_text(usage);
+        say_wrong(errors, program, b"unknown option ", name);
+        say_text(errors, usage);
         return Asked::Done;
     }
-    let fd = os::open_read(name);
-    if fd < 0 {
-        say_unopened(program, name);
-        return Asked::Done;
+    match open(rt, name) {
+        Ok(file) => Asked::File(file),
+        Err(cause) => {
+            say_unopened(errors, program, name, cause);
+            Asked::Done
+        }
     }
-    Asked::Input(fd)
 }
 
 fn is_option(name: &[u8]) -> bool {
@@ -97,20 +117,20 @@ fn is_option(name: &[u8]) -> bool {
     name[0] == b'-'
 }
 
-fn say_wrong(program: &[u8], what: &[u8], name: &[u8]) {
+fn say_wrong<E: Write>(errors: &mut E, program: &[u8], what: &[u8], name: &[u8]) {
     let mut note = [0u8; NOTE];
     let next = put(&mut note, 0, program);
     let next = put(&mut note, next, b": ");
     let next = put(&mut note, next, what);
     let next = quote(&mut note, next, name);
     let next = put(&mut note, next, b"\n");
-    say(&note, next);
+    say(errors, &note, next);
 }
 
-fn say_unopened(program: &[u8], name: &[u8]) {
+fn say_unopened<E: Write>(errors: &mut E, program: &[u8], name: &[u8], cause: io::Error) {
     let mut what = [0u8; NOTE];
     let next = quote(&mut what, 0, name);
     let next = put(&mut what, next, b" cannot be opened");
     let n = within(&what, next);
-    say_failed(program, &what[..n]);
+    say_failed(errors, program, &what[..n], cause);
 }

@@ -1,8 +1,11 @@
 // An input, read whole.
-ghost use Rattle.std.specs.Prelude.{◌≤◌, length};
-ghost use Rattle.io.specs.Counts.{IsPrefixLen};
+ghost use Rattle.std.specs.Prelude.{◌≡◌, ◌+◌, ◌<◌, ◌≤◌, length, take, drop, IfOk, OnErr, IsTrue};
+ghost use Rattle.std.specs.Io.KnownBytes.{Keeps, Consumes, IsAtEnd};
+ghost use Rattle.console.specs.Counts.{IsPrefixLen};
 
 use crate::saying::say_unread;
+use std::io;
+use std::io::{Read, Write};
 
 // How many bytes were read to the front of the buffer, and whether no read failed.
 #[derive(Drop)]
@@ -11,32 +14,42 @@ pub struct Reading {
     pub whole: bool,
 }
 
-// One read into the buffer from a place on: how many bytes it gave, or -1.
-fn read_more(fd: i32, buffer: &mut [u8], done: usize) -> isize
+// One read into the buffer from a place on: how many bytes it gave.
+fn read_more<R: Read>(input: &mut R, buffer: &mut [u8], done: usize) -> io::Result<usize>
     requires { done ≤ length buffer.old }
+    ensures front { take done buffer.new ≡ take done buffer.old }
+    ensures fits { IfOk result (λ n. done + n ≤ length buffer.new) }
+    ensures bytes { IfOk result (λ n. Consumes (R.remaining input.old) (R.remaining input.new) (take n (drop done buffer.new))) }
+    ensures end { IfOk result (λ n. n ≡ 0 → done < length buffer.new → IsAtEnd (R.remaining input.new)) }
+    ensures err { OnErr result (Keeps (R.remaining input.old) (R.remaining input.new)) }
 {
-    libc::read(fd, &mut buffer[done..])
+    input.read(&mut buffer[done..])
 }
 
 // Reads until the buffer is full or the input ends. That a read failed is said.
-pub fn read_whole(program: &[u8], fd: i32, buffer: &mut [u8]) -> Reading
-    ensures { IsPrefixLen result.count buffer.new }
+pub fn read_whole<R: Read, E: Write>(
+    errors: &mut E,
+    program: &[u8],
+    input: &mut R,
+    buffer: &mut [u8],
+) -> Reading
+    ensures count { IsPrefixLen result.count buffer.new }
+    ensures bytes { Consumes (R.remaining input.old) (R.remaining input.new) (take result.count buffer.new) }
+    ensures end { IsTrue result.whole → result.count < length buffer.new → IsAtEnd (R.remaining input.new) }
 {
     let mut done = 0;
     while done < buffer.len() {
-        let got = read_more(fd, buffer, done);
-        if got < 0 {
-            say_unread(program);
-            return Reading {
-                count: done,
-                whole: false,
-            };
+        match read_more(input, buffer, done) {
+            Ok(0) => break,
+            Ok(more) => done += more,
+            Err(cause) => {
+                say_unread(errors, program, cause);
+                return Reading {
+                    count: done,
+                    whole: false,
+                };
+            }
         }
-        let more = io::count(got, &buffer[done..]);
-        if more == 0 {
-            break;
-        }
-        done += more;
     }
     Reading {
         count: done,

@@ -1,13 +1,26 @@
 // What a program says: on standard error, but for what it was asked to tell.
-ghost use Rattle.std.specs.Prelude.{◌≡◌, min, length};
-ghost use Rattle.io.specs.Counts.{IsPrefixLen};
+ghost use Rattle.std.specs.Prelude.{◌≡◌, min, length, take, IsTrue};
+ghost use Rattle.std.specs.Io.KnownBytes.{Appends};
+ghost use Rattle.console.specs.Counts.{IsPrefixLen};
 
-use libc::{STDERR_FILENO, STDOUT_FILENO};
 use numbers::lesser;
 use octets::put;
+use std::fmt::InlineText;
+use std::io;
+use std::io::Write;
 
 // Room for a message that quotes a text.
 pub const NOTE: usize = 512;
+
+// Room for the system's words for an error, and its number.
+const CAUSE: usize = 128;
+
+// Where a program writes: what it was asked to tell, and what it says.
+#[derive(Drop)]
+pub struct Streams<O, E> {
+    pub output: O,
+    pub errors: E,
+}
 
 // So many bytes of a text, or all of them if there are fewer.
 pub fn within(text: &[u8], n: usize) -> usize
@@ -17,44 +30,70 @@ pub fn within(text: &[u8], n: usize) -> usize
     lesser(n, text.len())
 }
 
-pub fn say_text(text: &[u8]) {
-    io::write_all(STDERR_FILENO, text);
+pub fn say_text<E: Write>(errors: &mut E, text: &[u8]) {
+    let _ = errors.write_all(text);
 }
 
 // The first n bytes of a message.
-pub fn say(note: &[u8], n: usize) {
+pub fn say<E: Write>(errors: &mut E, note: &[u8], n: usize) {
     let n = within(note, n);
-    io::write_all(STDERR_FILENO, &note[..n]);
+    say_text(errors, &note[..n]);
 }
 
-// The program's name, what cannot be done, and the system's reason for the call that failed last.
-pub(crate) fn say_failed(program: &[u8], what: &[u8]) {
+// The program's name, what cannot be done, and the system's reason.
+pub(crate) fn say_failed<E: Write>(errors: &mut E, program: &[u8], what: &[u8], cause: io::Error) {
     let mut note = [0u8; NOTE];
     let next = put(&mut note, 0, program);
     let next = put(&mut note, next, b": ");
     let next = put(&mut note, next, what);
-    let n = within(&note, next);
-    os::fail(&note[..n]);
+    let next = put(&mut note, next, b": ");
+    let next = put_cause(&mut note, next, cause);
+    let next = put(&mut note, next, b"\n");
+    say(errors, &note, next);
 }
 
-pub(crate) fn say_unread(program: &[u8]) {
-    say_failed(program, b"the input cannot be read");
-}
-
-// A text on standard output. Tells whether it was written; that it could not be is said at once, while the system still knows why.
-pub fn tell(program: &[u8], text: &[u8]) -> bool {
-    let done = io::write_all(STDOUT_FILENO, text);
-    if !done {
-        say_failed(program, b"standard output cannot be written");
+// The system's words for an error, without its number.
+fn put_cause(note: &mut [u8], at: usize, cause: io::Error) -> usize {
+    let text = InlineText::<CAUSE>::of(cause);
+    let words = text.as_str();
+    match words.rsplit_once(" (os error ") {
+        Some((words, _)) => put(note, at, words.as_bytes()),
+        None => put(note, at, words.as_bytes()),
     }
-    done
+}
+
+pub(crate) fn say_unread<E: Write>(errors: &mut E, program: &[u8], cause: io::Error) {
+    say_failed(errors, program, b"the input cannot be read", cause);
+}
+
+// A text on standard output. Tells whether it was written; that it could not be is said at once.
+pub fn tell<O: Write, E: Write>(streams: &mut Streams<O, E>, program: &[u8], text: &[u8]) -> bool
+    ensures { IsTrue result → Appends (O.contents streams.old.output) (O.contents streams.new.output) text.now }
+{
+    match streams.output.write_all(text) {
+        Ok(()) => true,
+        Err(cause) => {
+            let what = b"standard output cannot be written";
+            say_failed(&mut streams.errors, program, what, cause);
+            false
+        }
+    }
 }
 
 // The first n bytes of a text, if they are wanted.
-pub fn tell_if(wanted: bool, program: &[u8], text: &[u8], n: usize) -> bool {
+pub fn tell_if<O: Write, E: Write>(
+    streams: &mut Streams<O, E>,
+    wanted: bool,
+    program: &[u8],
+    text: &[u8],
+    n: usize,
+) -> bool
+    ensures wanted { IsTrue result → IsTrue wanted }
+    ensures written { IsTrue result → Appends (O.contents streams.old.output) (O.contents streams.new.output) (take n text.now) }
+{
     if !wanted {
         return false;
     }
     let n = within(text, n);
-    tell(program, &text[..n])
+    tell(streams, program, &text[..n])
 }

@@ -5,8 +5,9 @@ use crate::unit::put_trimmed;
 use numbers::lesser;
 use octets::put;
 use scan::Stop;
+use std::io::Write;
 
-#[derive(Drop)]
+#[derive(Clone, Copy)]
 pub(crate) enum Met {
     NothingExpected,
     Held,
@@ -22,7 +23,7 @@ fn answer_start(logged: &[u8]) -> usize
 }
 
 // The line of the log is given without its newline. A failed expectation is reported.
-pub(crate) fn check(number: usize, step: &[u8], logged: &[u8]) -> Met {
+pub(crate) fn check<E: Write>(errors: &mut E, number: usize, step: &[u8], logged: &[u8]) -> Met {
     let span = expect::expected(step);
     let end = lesser(span.end, step.len());
     let start = lesser(span.start, end);
@@ -33,11 +34,11 @@ pub(crate) fn check(number: usize, step: &[u8], logged: &[u8]) -> Met {
     if expect::meets(&step[start..end], &logged[from..]) {
         return Met::Held;
     }
-    say_failed(number, &step[start..end], &logged[from..]);
+    say_failed(errors, number, &step[start..end], &logged[from..]);
     Met::Failed
 }
 
-fn say_failed(number: usize, expected: &[u8], answer: &[u8]) {
+fn say_failed<E: Write>(errors: &mut E, number: usize, expected: &[u8], answer: &[u8]) {
     let mut note = [0u8; 2 * console::NOTE];
     let next = put(&mut note, 0, b"explain: line ");
     let next = text::put_decimal(&mut note, next, number);
@@ -46,5 +47,5 @@ fn say_failed(number: usize, expected: &[u8], answer: &[u8]) {
     let next = put(&mut note, next, b", but ");
     let next = quoting::quote(&mut note, next, answer);
     let next = put(&mut note, next, b"\n");
-    console::say(&note, next);
+    console::say(errors, &note, next);
 }

@@ -1,25 +1,40 @@
 // Carries out frames, or steps as lines, and says of each in words what it did. Holds what the lines expect against what came.
 #![tactic(auto)]
-use console::Asked;
+
+use console::{Asked, Streams};
 use numbers::{minus, one_if};
 use octets::put;
 use run::Tally;
 use script::Judgement;
+use std::io::{Read, Write};
+use std::rt::{Env, Files};
 
 mod checking;
 mod run;
 mod unit;
 
-fn main() {
-    let frames = console::is(1, b"--frames");
-    if let Asked::Input(fd) = ask(1 + one_if(frames)) {
-        read(fd, frames);
+fn main(rt: HostRuntime) {
+    let mut streams = Streams {
+        output: rt.stdout(),
+        errors: rt.stderr(),
+    };
+    let frames = console::is(&rt, 1, b"--frames");
+    match ask(&rt, &mut streams, 1 + one_if(frames)) {
+        Asked::Input => read(&mut streams, rt.stdin(), frames),
+        Asked::File(file) => read(&mut streams, file, frames),
+        Asked::Done => {}
     }
 }
 
 // The arguments from the first on.
-fn ask(first: usize) -> Asked {
+fn ask<R: Env + Files, O: Write, E: Write>(
+    rt: &R,
+    streams: &mut Streams<O, E>,
+    first: usize,
+) -> Asked<R::File> {
     console::arguments(
+        rt,
+        streams,
         b"explain",
         first,
         b"usage: explain [STEPS]\n\
@@ -48,60 +63,75 @@ fn ask(first: usize) -> Asked {
 }
 
 // The input is frames, or a line of it is a step.
-fn read(fd: i32, frames: bool) {
+fn read<R: Read + Drop, O: Write, E: Write>(
+    streams: &mut Streams<O, E>,
+    mut from: R,
+    frames: bool,
+) {
     let mut input = script::room();
-    let reading = console::read_whole(b"explain", fd, &mut input);
+    let reading = console::read_whole(&mut streams.errors, b"explain", &mut from, &mut input);
     if reading.whole {
         let n = reading.count;
-        run_all(&input[..n], frames);
+        run_all(streams, &input[..n], frames);
     }
 }
 
-fn run_all(input: &[u8], frames: bool) {
+fn run_all<O: Write, E: Write>(streams: &mut Streams<O, E>, input: &[u8], frames: bool) {
     if frames {
-        run_frames(input);
+        run_frames(streams, input);
     } else {
-        run_steps(input);
+        run_steps(streams, input);
     }
 }
 
-fn run_frames(input: &[u8]) {
+fn run_frames<O: Write, E: Write>(streams: &mut Streams<O, E>, input: &[u8]) {
     if input.len() > journal::MOST {
-        say_if_text(input);
-        console::say_text(b"explain: the input is above 32768 bytes, nothing is run\n");
+        say_if_text(&mut streams.errors, input);
+        console::say_text(
+            &mut streams.errors,
+            b"explain: the input is above 32768 bytes, nothing is run\n",
+        );
         return;
     }
-    let tally = run::explain(false, input);
+    let tally = run::explain(streams, false, input);
     if tally.early {
-        say_if_text(input);
+        say_if_text(&mut streams.errors, input);
     }
-    sum_up(tally);
+    sum_up(&mut streams.errors, tally);
 }
 
 // Steps that are given for frames.
-fn say_if_text(input: &[u8]) {
+fn say_if_text<E: Write>(errors: &mut E, input: &[u8]) {
     if textlike::looks_like_text(input) {
-        console::say_text(b"explain: the input looks like steps; leave --frames out\n");
+        console::say_text(
+            errors,
+            b"explain: the input looks like steps; leave --frames out\n",
+        );
     }
 }
 
-fn run_steps(input: &[u8]) {
-    match script::judge(b"explain", input) {
+fn run_steps<O: Write, E: Write>(streams: &mut Streams<O, E>, input: &[u8]) {
+    match script::judge(&mut streams.errors, b"explain", input) {
         Judgement::TooLong => {
-            console::say_text(b"explain: the input is above 1048576 bytes, nothing is run\n")
+            console::say_text(
+                &mut streams.errors,
+                b"explain: the input is above 1048576 bytes, nothing is run\n",
+            )
         }
         Judgement::Lines(judged) => {
             if 0 < judged.bad {
-                say_bad(input, judged.bad);
+                say_bad(&mut streams.errors, input, judged.bad);
             } else {
-                sum_up(run::explain(true, input));
+                let tally = run::explain(streams, true, input);
+                sum_up(&mut streams.errors, tally);
             }
         }
     }
 }
 
-fn say_bad(input: &[u8], bad: usize) {
+fn say_bad<E: Write>(errors: &mut E, input: &[u8], bad: usize) {
     reporting::say_bad(
+        errors,
         b"explain",
         input,
         bad,
@@ -116,7 +146,7 @@ fn refused(tally: Tally) -> usize {
 }
 
 // The last line on standard error.
-fn sum_up(tally: Tally) {
+fn sum_up<E: Write>(errors: &mut E, tally: Tally) {
     let mut note = [0u8; console::NOTE];
     let next = put(&mut note, 0, b"explain: ");
     let next = counting::put_run(
@@ -136,7 +166,7 @@ fn sum_up(tally: Tally) {
         tally.kept,
     );
     let next = put(&mut note, next, b"\n");
-    console::say(&note, next);
+    console::say(errors, &note, next);
 }
 
 // How many expectations held and failed, if there was one.

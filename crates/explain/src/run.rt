@@ -3,9 +3,11 @@ ghost use Rattle.std.specs.Prelude.{◌≤◌, ◌<◌, length};
 
 use crate::checking::{Met, check};
 use crate::unit::{Unit, line_end, next_frame, next_line};
+use console::Streams;
 use numbers::{greater, lesser, minus, one_if};
 use octets::put;
 use state::CacheState;
+use std::io::Write;
 use wording::put_words;
 
 // The window of the log program.
@@ -17,7 +19,7 @@ const LINE: usize = 16384;
 
 // How many frames there were and how many of them were carried out, whether an unreadable one ended the run, how many lines were written
 // before the first that was not, and how many expectations held and failed.
-#[derive(Drop)]
+#[derive(Clone, Copy)]
 pub(crate) struct Tally {
     pub frames: usize,
     pub carried: usize,
@@ -28,9 +30,14 @@ pub(crate) struct Tally {
 }
 
 // The line ends at a place, and is written if it is wanted. Tells whether it was.
-fn write(line: &mut [u8], at: usize, wanted: bool) -> bool {
+fn write<O: Write, E: Write>(
+    streams: &mut Streams<O, E>,
+    line: &mut [u8],
+    at: usize,
+    wanted: bool,
+) -> bool {
     let next = put(line, at, b"\n");
-    console::tell_if(wanted, b"explain", line, next)
+    console::tell_if(streams, wanted, b"explain", line, next)
 }
 
 // What is left of the input, as a frame or as a line of steps.
@@ -51,13 +58,20 @@ fn next_unit(
 }
 
 // What the line of steps expects of the frame.
-fn met(by_lines: bool, place: usize, rest: &[u8], logged: &[u8], size: usize) -> Met {
+fn met<E: Write>(
+    errors: &mut E,
+    by_lines: bool,
+    place: usize,
+    rest: &[u8],
+    logged: &[u8],
+    size: usize,
+) -> Met {
     if !by_lines {
         return Met::NothingExpected;
     }
     let end = line_end(rest);
     let n = console::within(logged, minus(size, 1));
-    check(place, &rest[..end], &logged[..n])
+    check(errors, place, &rest[..end], &logged[..n])
 }
 
 // How many bytes a unit has: a line with its newline, or the frame that was taken.
@@ -95,7 +109,7 @@ fn count(n: usize, test: bool) -> usize {
 
 // What came of a unit: whether it had a frame, how many bytes that took up, whether it was accepted, whether its line was written, and
 // whether an expectation held or failed.
-#[derive(Drop)]
+#[derive(Clone, Copy)]
 struct Told {
     there: bool,
     taken: usize,
@@ -139,7 +153,8 @@ fn has_failed(met: Met) -> bool {
 }
 
 // A frame whose line has begun. What the log prints of it takes the place of the line, once that is written.
-fn tell_frame(
+fn tell_frame<O: Write, E: Write>(
+    streams: &mut Streams<O, E>,
     by_lines: bool,
     number: usize,
     place: usize,
@@ -159,13 +174,13 @@ fn tell_frame(
     let n = console::within(destination, carried.delivered);
     let delivered = &destination[..n];
     let next = put_words(line, at, frame, answer, &before, state, delivered);
-    let kept = write(line, next, wanted);
-    let logged = log::put_line(line, 0, number, carried.letter, answer, delivered);
-    let met = met(by_lines, place, rest, line, logged);
+    let kept = write(streams, line, next, wanted);
+    let logged = loglines::put_line(line, 0, number, carried.letter, answer, delivered);
+    let met = met(&mut streams.errors, by_lines, place, rest, line, logged);
     Told {
         there: true,
         taken: carried.taken,
-        accepted: log::is_accepted(answer),
+        accepted: loglines::is_accepted(answer),
         kept,
         held: has_held(met),
         failed: has_failed(met),
@@ -173,7 +188,8 @@ fn tell_frame(
 }
 
 // What is left of the input begins with a unit. Its frame's data pass through the destination.
-fn tell(
+fn tell<O: Write, E: Write>(
+    streams: &mut Streams<O, E>,
     by_lines: bool,
     number: usize,
     place: usize,
@@ -192,6 +208,7 @@ fn tell(
     }
     let n = console::within(frame, unit.size);
     tell_frame(
+        streams,
         by_lines,
         number,
         place,
@@ -230,7 +247,11 @@ fn none() -> Tally {
     }
 }
 
-pub(crate) fn explain(by_lines: bool, input: &[u8]) -> Tally {
+pub(crate) fn explain<O: Write, E: Write>(
+    streams: &mut Streams<O, E>,
+    by_lines: bool,
+    input: &[u8],
+) -> Tally {
     let mut state = CacheState::fresh();
     let mut store = [0u8; CacheState::STORE];
     let mut window = [0u8; WINDOW];
@@ -243,6 +264,7 @@ pub(crate) fn explain(by_lines: bool, input: &[u8]) -> Tally {
     while at < input.len() {
         place = count(place, true);
         let told = tell(
+            streams,
             by_lines,
             count(tally.frames, true),
             place,

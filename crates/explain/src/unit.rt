@@ -1,5 +1,5 @@
 // The next frame of an input, copied to the front of a buffer, and how its line of words begins. The input is of frames, or of steps.
-ghost use Rattle.io.specs.Counts.{IsPrefixLen};
+ghost use Rattle.console.specs.Counts.{IsPrefixLen};
 
 use numbers::lesser;
 use octets::{copy_front, put};

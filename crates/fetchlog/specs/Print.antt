@@ -3,7 +3,7 @@
 use Rattle.std.specs.Prelude.{ℕ, ◌≡◌, List, length}
 use Rattle.state.specs.Verdict.{accepted}
 use Rattle.octets.specs.Lists.{overwrite, count}
-use Rattle.log.specs.Line.{line_of}
+use Rattle.loglines.specs.Line.{line_of}
 use Rattle.device.specs.Step.{Device, device_of}
 use Rattle.device.specs.Frame.{taken_up, letter_of, frame_says, frame_leaves, frame_delivers}
 use Rattle.journal.specs.Run.{entries, journal_leaves, was_carried, was_refused, ends_early}

@@ -1,9 +1,12 @@
 // Reads a journal of frames, and prints its log: a line for each frame, up to the first that is unreadable.
 #![tactic(auto)]
-use console::Asked;
+
+use console::{Asked, Streams};
 use octets::put;
 use printing::{LINE, Printed};
 use state::CacheState;
+use std::io::{Read, Write};
+use std::rt::{Env, Files};
 
 mod printing;
 
@@ -13,14 +16,22 @@ const INPUT: usize = journal::MOST + 1;
 // The window of the log program.
 const WINDOW: usize = 16384;
 
-fn main() {
-    if let Asked::Input(fd) = ask() {
-        run(fd);
+fn main(rt: HostRuntime) {
+    let mut streams = Streams {
+        output: rt.stdout(),
+        errors: rt.stderr(),
+    };
+    match ask(&rt, &mut streams) {
+        Asked::Input => run(&mut streams, rt.stdin()),
+        Asked::File(file) => run(&mut streams, file),
+        Asked::Done => {}
     }
 }
 
-fn ask() -> Asked {
+fn ask<R: Env + Files, O: Write, E: Write>(rt: &R, streams: &mut Streams<O, E>) -> Asked<R::File> {
     console::arguments(
+        rt,
+        streams,
         b"fetchlog",
         1,
         b"usage: fetchlog [FRAMES] > LOG\n\
@@ -41,37 +52,41 @@ fn ask() -> Asked {
     )
 }
 
-fn run(fd: i32) {
+fn run<R: Read + Drop, O: Write, E: Write>(streams: &mut Streams<O, E>, mut from: R) {
     let mut input = [0u8; INPUT];
-    let reading = console::read_whole(b"fetchlog", fd, &mut input);
+    let reading = console::read_whole(&mut streams.errors, b"fetchlog", &mut from, &mut input);
     if reading.whole {
         let n = reading.count;
-        run_all(&input[..n]);
+        run_all(streams, &input[..n]);
     }
 }
 
-fn run_all(input: &[u8]) {
+fn run_all<O: Write, E: Write>(streams: &mut Streams<O, E>, input: &[u8]) {
     if input.len() > journal::MOST {
-        refuse(input);
+        refuse(streams, input);
     } else {
-        print(input);
+        print(streams, input);
     }
 }
 
 // What document 01 (the agreed scope; docs/RULES.md has its rules) prints for an input that is too long.
-fn refuse(input: &[u8]) {
-    console::tell(b"fetchlog", b"input too long\n");
-    say_if_text(input);
-    console::say_text(b"fetchlog: the input is above 32768 bytes, no frame is run\n");
+fn refuse<O: Write, E: Write>(streams: &mut Streams<O, E>, input: &[u8]) {
+    console::tell(streams, b"fetchlog", b"input too long\n");
+    say_if_text(&mut streams.errors, input);
+    console::say_text(
+        &mut streams.errors,
+        b"fetchlog: the input is above 32768 bytes, no frame is run\n",
+    );
 }
 
-fn print(input: &[u8]) {
+fn print<O: Write, E: Write>(streams: &mut Streams<O, E>, input: &[u8]) {
     let mut state = CacheState::fresh();
     let mut store = [0u8; CacheState::STORE];
     let mut window = [0u8; WINDOW];
     let mut destination = [0u8; CacheState::TRANSFER];
     let mut line = [0u8; LINE];
     let printed = printing::print_log(
+        streams,
         input,
         &mut state.words,
         &mut store,
@@ -80,22 +95,23 @@ fn print(input: &[u8]) {
         &mut line,
     );
     if printed.early {
-        say_if_text(input);
+        say_if_text(&mut streams.errors, input);
     }
-    sum_up(printed);
+    sum_up(&mut streams.errors, printed);
 }
 
 // Steps that are given for frames.
-fn say_if_text(input: &[u8]) {
+fn say_if_text<E: Write>(errors: &mut E, input: &[u8]) {
     if textlike::looks_like_text(input) {
         console::say_text(
+            errors,
             b"fetchlog: the input looks like steps; framewriter makes frames of steps\n",
         );
     }
 }
 
 // The last line on standard error.
-fn sum_up(printed: Printed) {
+fn sum_up<E: Write>(errors: &mut E, printed: Printed) {
     let frames = printed.frames;
     let kept = printed.kept;
     let mut note = [0u8; console::NOTE];
@@ -110,5 +126,5 @@ fn sum_up(printed: Printed) {
     );
     let next = counting::put_lost(&mut note, next, b", log lost from line ", frames, kept);
     let next = put(&mut note, next, b"\n");
-    console::say(&note, next);
+    console::say(errors, &note, next);
 }

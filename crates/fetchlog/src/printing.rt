@@ -3,8 +3,10 @@ ghost use Rattle.std.specs.Prelude.{◌≡◌, cond, ◌+◌, ◌-◌, ◌≤◌
 ghost use Rattle.device.specs.Step.{device_of};
 ghost use Rattle.fetchlog.specs.Print.{Shows, Prints};
 
+use console::Streams;
 use numbers::one_if;
 use state::CacheState;
+use std::io::Write;
 
 // Room for the longest line.
 pub(crate) const LINE: usize = 8448;
@@ -30,7 +32,8 @@ pub struct Printed {
     pub kept: usize,
 }
 
-fn print_frame(
+fn print_frame<O: Write, E: Write>(
+    streams: &mut Streams<O, E>,
     number: usize,
     frame: &[u8],
     state: &mut [u16; CacheState::WORDS],
@@ -49,7 +52,7 @@ fn print_frame(
         taken: logged.taken,
         accepted: logged.accepted,
         size,
-        kept: console::tell_if(wanted, b"fetchlog", line, size),
+        kept: console::tell_if(streams, wanted, b"fetchlog", line, size),
     }
 }
 
@@ -68,7 +71,8 @@ fn summed(read: usize, carried: usize, early: bool, kept: usize) -> Printed
 }
 
 // Every frame is carried out, also when lines are no longer written.
-pub(crate) fn print_log(
+pub(crate) fn print_log<O: Write, E: Write>(
+    streams: &mut Streams<O, E>,
     input: &[u8],
     state: &mut [u16; CacheState::WORDS],
     store: &mut [u8],
@@ -85,6 +89,7 @@ pub(crate) fn print_log(
     let mut kept = 0;
     while at < input.len() {
         let r = print_frame(
+            streams,
             number + 1,
             &input[at..],
             state,

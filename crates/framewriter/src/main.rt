@@ -1,24 +1,35 @@
 // Reads steps, one a line, and writes their frames. All lines are judged first: if one of them has no frame, nothing is written.
 #![tactic(auto)]
-use console::Asked;
+
+use console::{Asked, Streams};
 use numbers::one_if;
 use octets::put;
 use scan::Stop;
 use script::{Judged, Judgement};
 use state::CacheState;
+use std::io::{Read, Write};
+use std::rt::{Env, Files};
 use steps::Framed;
 
 // The most bytes of a journal that fetchlog takes.
 const JOURNAL: usize = 32768;
 
-fn main() {
-    if let Asked::Input(fd) = ask() {
-        run(fd);
+fn main(rt: HostRuntime) {
+    let mut streams = Streams {
+        output: rt.stdout(),
+        errors: rt.stderr(),
+    };
+    match ask(&rt, &mut streams) {
+        Asked::Input => run(&mut streams, rt.stdin()),
+        Asked::File(file) => run(&mut streams, file),
+        Asked::Done => {}
     }
 }
 
-fn ask() -> Asked {
+fn ask<R: Env + Files, O: Write, E: Write>(rt: &R, streams: &mut Streams<O, E>) -> Asked<R::File> {
     console::arguments(
+        rt,
+        streams,
         b"framewriter",
         1,
         b"usage: framewriter [STEPS] > FRAMES\n\
@@ -48,35 +59,37 @@ fn ask() -> Asked {
     )
 }
 
-fn run(fd: i32) {
+fn run<R: Read + Drop, O: Write, E: Write>(streams: &mut Streams<O, E>, mut from: R) {
     let mut input = script::room();
-    let reading = console::read_whole(b"framewriter", fd, &mut input);
+    let reading = console::read_whole(&mut streams.errors, b"framewriter", &mut from, &mut input);
     if reading.whole {
         let n = reading.count;
-        write(&input[..n]);
+        write(streams, &input[..n]);
     }
 }
 
-fn write(input: &[u8]) {
-    match script::judge(b"framewriter", input) {
+fn write<O: Write, E: Write>(streams: &mut Streams<O, E>, input: &[u8]) {
+    match script::judge(&mut streams.errors, b"framewriter", input) {
         Judgement::TooLong => {
             console::say_text(
+                &mut streams.errors,
                 b"framewriter: the input is above 1048576 bytes, nothing is written\n",
             )
         }
         Judgement::Lines(judged) => {
             if 0 < judged.bad {
-                say_bad(input, judged.bad);
+                say_bad(&mut streams.errors, input, judged.bad);
             } else {
-                let kept = write_frames(input);
-                sum_up(judged, kept);
+                let kept = write_frames(streams, input);
+                sum_up(&mut streams.errors, judged, kept);
             }
         }
     }
 }
 
-fn say_bad(input: &[u8], bad: usize) {
+fn say_bad<E: Write>(errors: &mut E, input: &[u8], bad: usize) {
     reporting::say_bad(
+        errors,
         b"framewriter",
         input,
         bad,
@@ -92,10 +105,15 @@ struct Written {
     lost: bool,
 }
 
-fn write_frame(line: &[u8], buffer: &mut [u8], frame: &mut [u8]) -> Written {
+fn write_frame<O: Write, E: Write>(
+    streams: &mut Streams<O, E>,
+    line: &[u8],
+    buffer: &mut [u8],
+    frame: &mut [u8],
+) -> Written {
     match steps::frame_of(line, buffer, frame) {
         Framed::Frame(size) => {
-            let kept = console::tell_if(true, b"framewriter", frame, size);
+            let kept = console::tell_if(streams, true, b"framewriter", frame, size);
             Written { kept, lost: !kept }
         }
         _ => Written {
@@ -106,14 +124,14 @@ fn write_frame(line: &[u8], buffer: &mut [u8], frame: &mut [u8]) -> Written {
 }
 
 // Writes the frames of the lines, up to the first that cannot be written. Tells how many were.
-fn write_frames(input: &[u8]) -> usize {
+fn write_frames<O: Write, E: Write>(streams: &mut Streams<O, E>, input: &[u8]) -> usize {
     let mut buffer = [0u8; CacheState::TRANSFER];
     let mut frame = [0u8; script::FRAME];
     let mut kept = 0;
     let mut at = 0;
     while at < input.len() {
         let end = scan::until(input, at, Stop::LineEnd);
-        let written = write_frame(&input[at..end], &mut buffer, &mut frame);
+        let written = write_frame(streams, &input[at..end], &mut buffer, &mut frame);
         kept += one_if(written.kept);
         if written.lost {
             return kept;
@@ -127,9 +145,12 @@ fn write_frames(input: &[u8]) -> usize {
 }
 
 // The last line on standard error, and before it a word on a journal that is too long.
-fn sum_up(judged: Judged, kept: usize) {
+fn sum_up<E: Write>(errors: &mut E, judged: Judged, kept: usize) {
     if JOURNAL < judged.bytes {
-        console::say_text(b"framewriter: more than 32768 bytes, which fetchlog refuses\n");
+        console::say_text(
+            errors,
+            b"framewriter: more than 32768 bytes, which fetchlog refuses\n",
+        );
     }
     let frames = judged.frames;
     let mut note = [0u8; console::NOTE];
@@ -139,5 +160,5 @@ fn sum_up(judged: Judged, kept: usize) {
     let next = counting::put_count(&mut note, next, judged.bytes, b"byte");
     let next = counting::put_lost(&mut note, next, b", lost from frame ", frames, kept);
     let next = put(&mut note, next, b"\n");
-    console::say(&note, next);
+    console::say(errors, &note, next);
 }

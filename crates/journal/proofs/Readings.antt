@@ -164,7 +164,7 @@ entries_of_unread d r rs e = rw (entries_of, e)
 
 entry_in_lem : (d : Device) (frame : List ℕ) → entry_of d frame ≡ entry_in d (reading_of frame)
 unfolding frame_says frame_delivers
-entry_in_lem d frame = refl
+entry_in_lem d _ = refl
 
 pub entries_by_readings : (k : ℕ) (d : Device) (input : List ℕ) → entries_in k d input ≡ entries_of d (readings_in k input)
 unfolding entries_in entries_of readings_in

@@ -201,7 +201,7 @@ renewed_at other mem mem' c x h = absurd (false≢true h)
 same_memory :
     (es past past' : List Event) (c x : ℕ) → memory past c x ≡ memory past' c x → memory (backwards past es) c x ≡ memory (backwards past' es) c x
 unfolding backwards memory
-same_memory [] past past' c x h = h
+same_memory [] _ _ c x h = h
 same_memory (e ∷ es) past past' c x h = same_memory es (e ∷ past) (e ∷ past') c x (remember_at (deed e) (memory past) (memory past') c x h)
 
 memory_since :

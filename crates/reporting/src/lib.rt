@@ -1,9 +1,11 @@
 // What is said on standard error of lines that have no frame.
 #![tactic(auto)]
+
 use fields::Fault;
 use octets::put;
 use reason::{put_fault, put_refusal};
 use state::Refusal;
+use std::io::Write;
 use steps::Framed;
 
 mod reason;
@@ -16,45 +18,64 @@ fn put_place(note: &mut [u8], program: &[u8], number: usize) -> usize {
     put(note, next, b": ")
 }
 
-fn say_line(note: &mut [u8], at: usize, line: &[u8]) {
+fn say_line<E: Write>(errors: &mut E, note: &mut [u8], at: usize, line: &[u8]) {
     let next = put(note, at, b": ");
     let next = quoting::quote(note, next, line);
     let next = put(note, next, b"\n");
-    console::say(note, next);
+    console::say(errors, note, next);
 }
 
-fn say_fault(program: &[u8], number: usize, line: &[u8], fault: Fault) {
+fn say_fault<E: Write>(errors: &mut E, program: &[u8], number: usize, line: &[u8], fault: Fault) {
     let mut note = [0u8; console::NOTE];
     let next = put_place(&mut note, program, number);
     let next = put_fault(&mut note, next, fault);
-    say_line(&mut note, next, line);
+    say_line(errors, &mut note, next, line);
 }
 
-fn say_refusal(program: &[u8], number: usize, line: &[u8], refusal: Refusal) {
+fn say_refusal<E: Write>(
+    errors: &mut E,
+    program: &[u8],
+    number: usize,
+    line: &[u8],
+    refusal: Refusal,
+) {
     let mut note = [0u8; console::NOTE];
     let next = put_place(&mut note, program, number);
     let next = put_refusal(&mut note, next, refusal);
-    say_line(&mut note, next, line);
+    say_line(errors, &mut note, next, line);
 }
 
 // A bad line is reported, and any other is passed.
-pub fn report(program: &[u8], number: usize, line: &[u8], framed: Framed) {
+pub fn report<E: Write>(
+    errors: &mut E,
+    program: &[u8],
+    number: usize,
+    line: &[u8],
+    framed: Framed,
+) {
     match framed {
-        Framed::Bad(fault) => say_fault(program, number, line, fault),
-        Framed::Refused(refusal) => say_refusal(program, number, line, refusal),
+        Framed::Bad(fault) => say_fault(errors, program, number, line, fault),
+        Framed::Refused(refusal) => say_refusal(errors, program, number, line, refusal),
         _ => {}
     }
 }
 
 // What is said last where lines are bad: how many, and what is not done. Before it stands a hint, where the input is no text.
-pub fn say_bad(program: &[u8], input: &[u8], bad: usize, hint: &[u8], undone: &[u8]) {
+pub fn say_bad<E: Write>(
+    errors: &mut E,
+    program: &[u8],
+    input: &[u8],
+    bad: usize,
+    hint: &[u8],
+    undone: &[u8],
+) {
     if !textlike::looks_like_text(input) {
-        console::say_text(hint);
+        console::say_text(errors, hint);
     }
     let mut note = [0u8; console::NOTE];
     let next = put(&mut note, 0, program);
     let next = put(&mut note, next, b": ");
     let next = counting::put_count(&mut note, next, bad, b"bad line");
     let next = put(&mut note, next, undone);
-    console::say(&note, next);
+    console::say(errors, &note, next);
 }

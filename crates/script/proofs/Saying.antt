@@ -1,5 +1,5 @@
 -- What is said of a line depends on how much room there is, and not on what stands there; and its counts are small.
-use Prim.Native.Nat.{ℕ, ◌+◌, ◌*◌, ◌≤◌, min}
+use Prim.Native.Nat.{ℕ, ◌≤◌, min}
 use native.Mathlib.Omega.{arith}
 use mathlib.Core.Path.{◌≡◌, refl, ap, sym, ◌∙◌}
 use mathlib.Core.List.{List, [], ◌∷◌}
@@ -12,9 +12,9 @@ use Rattle.fields.specs.declared.Step.{Step}
 use Rattle.fields.specs.declared.Meaning.{Meaning}
 use Rattle.fields.specs.declared.Meaning.TheVariants.{Nothing, Step as StepMeant, Bad}
 use Rattle.steps.specs.Line.{line_means}
-use Rattle.steps.specs.Frame.{Said, nothing, faulty, answered, data_in, meaning_says}
+use Rattle.steps.specs.Frame.{answered, data_in, meaning_says}
 use Rattle.script.specs.declared.judging.Judged.{Judged}
-use Rattle.script.specs.Judging.{line_says, counts, frame_limit}
+use Rattle.script.specs.Judging.{line_says, counts}
 
 data_length : (buffer : List ℕ) (step : Step) → length (data_in buffer step) ≡ min step.given (length buffer)
 data_length buffer step = omega (arith, length-take (min step.given (length buffer)) buffer)

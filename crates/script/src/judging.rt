@@ -6,6 +6,7 @@ ghost use Rattle.script.specs.Judging.{line_says, judged, counts, judged_of, jud
 use reporting::report;
 use scan::Stop;
 use state::CacheState;
+use std::io::Write;
 use steps::Framed;
 
 // The most bytes of a file of steps.
@@ -56,7 +57,8 @@ fn counts(framed: Framed) -> Judged
     }
 }
 
-fn judge_line(
+fn judge_line<E: Write>(
+    errors: &mut E,
     program: &[u8],
     number: usize,
     line: &[u8],
@@ -67,11 +69,11 @@ fn judge_line(
     ensures { result ≡ counts (line_says line.now) }
 {
     let framed = steps::frame_of(line, buffer, frame);
-    report(program, number, line, framed);
+    report(errors, program, number, line, framed);
     counts(framed)
 }
 
-fn judge_lines(program: &[u8], input: &[u8]) -> Judged
+fn judge_lines<E: Write>(errors: &mut E, program: &[u8], input: &[u8]) -> Judged
     requires { length input.now ≤ 1048576 }
     ensures { result ≡ judged_of input.now }
 {
@@ -85,7 +87,14 @@ fn judge_lines(program: &[u8], input: &[u8]) -> Judged
     while at < input.len() {
         let end = scan::until(input, at, Stop::LineEnd);
         number += 1;
-        let line = judge_line(program, number, &input[at..end], &mut buffer, &mut frame);
+        let line = judge_line(
+            errors,
+            program,
+            number,
+            &input[at..end],
+            &mut buffer,
+            &mut frame,
+        );
         bad += line.bad;
         frames += line.frames;
         bytes += line.bytes;
@@ -95,11 +104,11 @@ fn judge_lines(program: &[u8], input: &[u8]) -> Judged
 }
 
 // A file that is too long is not looked at.
-pub fn judge(program: &[u8], input: &[u8]) -> Judgement
+pub fn judge<E: Write>(errors: &mut E, program: &[u8], input: &[u8]) -> Judgement
     ensures { result ≡ judgement input.now }
 {
     if MOST < input.len() {
         return Judgement::TooLong;
     }
-    Judgement::Lines(judge_lines(program, input))
+    Judgement::Lines(judge_lines(errors, program, input))
 }

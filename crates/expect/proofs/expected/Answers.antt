@@ -11,7 +11,8 @@ use Rattle.expect.proofs.expected.Goals as goal
 pub overflow_add-cut : goal.overflow_add-cut
 overflow_add-cut c =
     let end_inside : c.until-end.result ≤ length c.args.line.now = front_most _ c.args.line.now c.until-end.result c.until-end.ensures in
-    let text_length : length (take c.until-end.result c.args.line.now) ≡ c.until-end.result = length-take-le c.until-end.result c.args.line.now (end_inside) in
+    let text_length : length (take c.until-end.result c.args.line.now) ≡ c.until-end.result
+    = length-take-le c.until-end.result c.args.line.now end_inside in
     let text = take c.until-end.result c.args.line.now in
     omega (arith, front_most _ text c.until-cut.result c.until-cut.ensures, text_length, end_inside)
 
@@ -19,11 +20,13 @@ pub returns : goal.returns
 unfolding expected
 returns c =
     let end_inside : c.until-end.result ≤ length c.args.line.now = front_most _ c.args.line.now c.until-end.result c.until-end.ensures in
-    let text_length : length (take c.until-end.result c.args.line.now) ≡ c.until-end.result = length-take-le c.until-end.result c.args.line.now (end_inside) in
+    let text_length : length (take c.until-end.result c.args.line.now) ≡ c.until-end.result
+    = length-take-le c.until-end.result c.args.line.now end_inside in
     rw (c.lesser.ensures, c.until-cut.ensures, ← c.until-end.ensures, text_length)
 
 pub slice_bounds-until-end : goal.slice_bounds-until-end
 slice_bounds-until-end c =
     let end_inside : c.until-end.result ≤ length c.args.line.now = front_most _ c.args.line.now c.until-end.result c.until-end.ensures in
-    let text_length : length (take c.until-end.result c.args.line.now) ≡ c.until-end.result = length-take-le c.until-end.result c.args.line.now (end_inside) in
-    sym (text_length)
+    let text_length : length (take c.until-end.result c.args.line.now) ≡ c.until-end.result
+    = length-take-le c.until-end.result c.args.line.now end_inside in
+    sym text_length

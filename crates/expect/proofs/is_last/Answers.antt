@@ -26,12 +26,12 @@ returns-then-not-has_more c =
 
 pub returns : goal.returns
 returns c =
-    let more : let a = c.args in a.n < length (words_of a.text.now) = let a = c.args in
-    ltb-true a.n (length (words_of a.text.now)) (sym c.has_more.ensures ∙ c.if-not-has_more.false) in
-    let a = c.args in ap not c.has_more-2.ensures ∙ one_more a.n (length (words_of a.text.now)) (more)
+    let more : c.args.n < length (words_of c.args.text.now)
+    = ltb-true c.args.n (length (words_of c.args.text.now)) (sym c.has_more.ensures ∙ c.if-not-has_more.false) in
+    let a = c.args in ap not c.has_more-2.ensures ∙ one_more a.n (length (words_of a.text.now)) more
 
 pub overflow_add-n : goal.overflow_add-n
 overflow_add-n c =
-    let more : let a = c.args in a.n < length (words_of a.text.now) = let a = c.args in
-    ltb-true a.n (length (words_of a.text.now)) (sym c.has_more.ensures ∙ c.if-not-has_more.false) in
+    let more : c.args.n < length (words_of c.args.text.now)
+    = ltb-true c.args.n (length (words_of c.args.text.now)) (sym c.has_more.ensures ∙ c.if-not-has_more.false) in
     omega (arith, more, words_most c.args.text.now)

@@ -21,14 +21,15 @@ returns-then-one-other c = let a = c.args in rw (ne_eqb (length a.one.now) (leng
 pub returns-then-lower : goal.returns-then-lower
 unfolding same
 returns-then-lower c =
-    let as_long : let a = c.args in same a.one.now a.other.now ≡ front letter a.one.now a.other.now = let a = c.args in rw (eq-eqb (length a.one.now) (length a.other.now) c.if-one-other.false) in
+    let as_long : same c.args.one.now c.args.other.now ≡ front letter c.args.one.now c.args.other.now
+    = rw (eq-eqb (length c.args.one.now) (length c.args.other.now) c.if-one-other.false) in
     let a = c.args in
     let one = a.one.now in
     let other = a.other.now in
     let i = c.loop-i.i in
     let low = c.lower.ensures in
     let differ = ne_eqb (lower (get_or one i 0)) (lower (get_or other i 0)) (λ e. c.if-lower.true (low ∙ e ∙ sym c.lower-in-loop-i.ensures)) in
-    sym (unlike letter one other i 0 (omega arith) (omega arith) differ) ∙ c.loop-i.invariant ∙ sym (as_long)
+    sym (unlike letter one other i 0 (omega arith) (omega arith) differ) ∙ c.loop-i.invariant ∙ sym as_long
 
 pub loop-i-preserved : goal.loop-i-preserved
 loop-i-preserved c =
@@ -43,6 +44,7 @@ loop-i-preserved c =
 pub returns : goal.returns
 unfolding same
 returns c =
-    let as_long : let a = c.args in same a.one.now a.other.now ≡ front letter a.one.now a.other.now = let a = c.args in rw (eq-eqb (length a.one.now) (length a.other.now) c.if-one-other.false) in
+    let as_long : same c.args.one.now c.args.other.now ≡ front letter c.args.one.now c.args.other.now
+    = rw (eq-eqb (length c.args.one.now) (length c.args.other.now) c.if-one-other.false) in
     let a = c.args in
-    sym (whole letter a.one.now a.other.now c.loop-i.i (omega arith)) ∙ c.loop-i.invariant ∙ sym (as_long)
+    sym (whole letter a.one.now a.other.now c.loop-i.i (omega arith)) ∙ c.loop-i.invariant ∙ sym as_long

@@ -23,5 +23,6 @@ returns c =
     let text = a.text.now in
     let at = c.behind.result in
     let none : a.n + 0 ≡ a.n = omega arith in
-    let nth : get_or (words_of (drop at text)) 0 [] ≡ get_or (words_of text) a.n [] = rw (c.behind.ensures.rest, get_or-drop a.n (words_of text) 0 [], none) in
+    let nth : get_or (words_of (drop at text)) 0 [] ≡ get_or (words_of text) a.n []
+    = rw (c.behind.ensures.rest, get_or-drop a.n (words_of text) 0 [], none) in
     rw (ends, c.until-from.ensures) (sym (first_here text at) ∙ nth)

@@ -14,14 +14,17 @@ use Rattle.quoting.proofs.quote.Goals as goal
 quoted_append : (xs ys : List ℕ) → quoted_all (xs ++ ys) ≡ quoted_all xs ++ quoted_all ys
 unfolding quoted_all
 quoted_append [] ys = refl
-quoted_append (x ∷ xs) ys = ap (λ (l : List ℕ). quoted_byte x ++ l) (quoted_append xs ys) ∙ sym (append_assoc (quoted_byte x) (quoted_all xs) (quoted_all ys))
+quoted_append (x ∷ xs) ys =
+    ap (λ (l : List ℕ). quoted_byte x ++ l) (quoted_append xs ys)
+    ∙ sym (append_assoc (quoted_byte x) (quoted_all xs) (quoted_all ys))
 
 -- a byte more
 quoted_more : (text : List ℕ) (i : ℕ) → i < length text → quoted_all (take i text) ++ quoted_byte (get_or text i 0) ≡ quoted_all (take (i + 1) text)
 unfolding quoted_all
 quoted_more text i inside =
     sym
-    (ap (λ (n : ℕ). quoted_all (take n text)) (add-one i) ∙ ap quoted_all (take-suc text i 0 inside) ∙ quoted_append (take i text) (get_or text i 0 ∷ [])
+    (ap (λ (n : ℕ). quoted_all (take n text)) (add-one i) ∙ ap quoted_all (take-suc text i 0 inside)
+    ∙ quoted_append (take i text) (get_or text i 0 ∷ [])
     ∙ ap (λ (l : List ℕ). quoted_all (take i text) ++ l) (append-nil (quoted_byte (get_or text i 0))))
 
 -- a text that is cut, and one that is shown whole
@@ -40,44 +43,49 @@ unfolding quoted_all
 loop-i-init c =
     let text : List ℕ = c.args.text.now in
     let size : c.lesser-n.result ≡ min (length text) 60 = c.lesser-n.ensures in
-    let first = c.put-next in
-    let size = c.lesser-n.ensures in
-    (omega (arith, size), omega arith, refl, puts_none first.new.out first.result first.result (omega (arith, first.ensures.next, puts_length first.ensures)))
+    let first = c.put-next in (
+      omega (arith, size),
+      omega arith,
+      refl,
+      puts_none first.new.out first.result first.result (omega (arith, first.ensures.next, puts_length first.ensures)),
+    )
 
 pub quote_byte-next-requires : goal.quote_byte-next-requires
 quote_byte-next-requires c =
     let text : List ℕ = c.args.text.now in
     let size : c.lesser-n.result ≡ min (length text) 60 = c.lesser-n.ensures in
     let i = c.loop-i.i in
-    omega (arith, size, length-take (i + 1 - i) (drop i (text)), length-drop i (text))
+    omega (arith, size, length-take (i + 1 - i) (drop i text), length-drop i text)
 
 pub loop-i-preserved : goal.loop-i-preserved
 loop-i-preserved c =
     let text : List ℕ = c.args.text.now in
     let size : c.lesser-n.result ≡ min (length text) 60 = c.lesser-n.ensures in
     let i = c.loop-i.i in
-    let byte : get_or (take (i + 1 - i) (drop i (text))) 0 0 ≡ get_or (text) i 0
-    = get_or-take (i + 1 - i) (drop i (text)) 0 0 (omega arith) ∙ get_or-drop i (text) 0 0 ∙ ap (λ (k : ℕ). get_or (text) k 0) (omega arith) in (
+    let byte : get_or (take (i + 1 - i) (drop i text)) 0 0 ≡ get_or text i 0
+    = get_or-take (i + 1 - i) (drop i text) 0 0 (omega arith) ∙ get_or-drop i text 0 0 ∙ ap (λ (k : ℕ). get_or text k 0) (omega arith) in (
       omega (arith, size),
       omega arith,
       omega arith,
       puts_is (puts_both c.loop-i.invariant.3 c.quote_byte-next.ensures)
-          (ap (λ (b : ℕ). quoted_all (take i (text)) ++ quoted_byte b) byte ∙ quoted_more (text) i (omega (arith, size))),
+          (ap (λ (b : ℕ). quoted_all (take i text) ++ quoted_byte b) byte ∙ quoted_more text i (omega (arith, size))),
     )
 
 pub returns-then-n-text : goal.returns-then-n-text
 returns-then-n-text c =
     let text : List ℕ = c.args.text.now in
     let size : c.lesser-n.result ≡ min (length text) 60 = c.lesser-n.ensures in
-    let so_far : Puts c.args.out.now c.args.at (quoted_all (take c.loop-i.i text)) c.loop-i.next c.loop-i.out = puts_both c.put-next.ensures c.loop-i.invariant.3 in
+    let so_far : Puts c.args.out.now c.args.at (quoted_all (take c.loop-i.i text)) c.loop-i.next c.loop-i.out
+    = puts_both c.put-next.ensures c.loop-i.invariant.3 in
     let full : c.loop-i.i ≡ 60 = omega (arith, size, c.if-n-text.true) in
-    puts_is (puts_both (so_far) c.put.ensures)
-    (ap (λ (n : ℕ). quoted_all (take n (text)) ++ ascii "...") full ∙ cut (text) (omega (arith, size)))
+    puts_is (puts_both so_far c.put.ensures)
+    (ap (λ (n : ℕ). quoted_all (take n text) ++ ascii "...") full ∙ cut text (omega (arith, size)))
 
 pub returns : goal.returns
 returns c =
     let text : List ℕ = c.args.text.now in
     let size : c.lesser-n.result ≡ min (length text) 60 = c.lesser-n.ensures in
-    let so_far : Puts c.args.out.now c.args.at (quoted_all (take c.loop-i.i text)) c.loop-i.next c.loop-i.out = puts_both c.put-next.ensures c.loop-i.invariant.3 in
-    let full : c.loop-i.i ≡ length (text) = omega (arith, size, c.if-n-text.false) in
-    puts_is (so_far) (ap (λ (n : ℕ). quoted_all (take n (text))) full ∙ all (text) (omega (arith, size)))
+    let so_far : Puts c.args.out.now c.args.at (quoted_all (take c.loop-i.i text)) c.loop-i.next c.loop-i.out
+    = puts_both c.put-next.ensures c.loop-i.invariant.3 in
+    let full : c.loop-i.i ≡ length text = omega (arith, size, c.if-n-text.false) in
+    puts_is so_far (ap (λ (n : ℕ). quoted_all (take n text)) full ∙ all text (omega (arith, size)))

@@ -8,7 +8,8 @@ use Rattle.quoting.proofs.quote.Given as goal
 
 abbrev pub invariant-loop-i : goal.invariant-loop-i
 invariant-loop-i l =
-    (l.n ≤ length l.text) × (l.i ≤ l.n) × (length l.out ≡ length l.initial.out) × Puts l.initial.out l.initial.next (quoted_all (take l.i l.text)) l.next l.out
+    (l.n ≤ length l.text) × (l.i ≤ l.n) × (length l.out ≡ length l.initial.out)
+    × Puts l.initial.out l.initial.next (quoted_all (take l.i l.text)) l.next l.out
 
 abbrev pub decreases-loop-i : goal.decreases-loop-i
 decreases-loop-i l = l.n - l.i

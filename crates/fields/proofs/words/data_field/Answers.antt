@@ -16,4 +16,9 @@ slice_bounds-word-end c = omega (arith, rw c.until-from.ensures at c.until-to.en
 
 pub returns : goal.returns
 unfolding data_field data_bytes
-returns c = let wanted = c.if-not-wanted.false in record { field = rw (wanted, c.data_fault.ensures, c.until-to.ensures, c.until-from.ensures); bytes = rw wanted (rw (c.until-to.ensures, c.until-from.ensures) at c.decode.ensures) }
+returns c =
+    let wanted = c.if-not-wanted.false in
+    record {
+      field = rw (wanted, c.data_fault.ensures, c.until-to.ensures, c.until-from.ensures);
+      bytes = rw wanted (rw (c.until-to.ensures, c.until-from.ensures) at c.decode.ensures);
+    }

@@ -24,7 +24,8 @@ loop-i-preserved c =
     let bytes = c.args.bytes.now in
     let text = c.args.text.now in
     let i = c.loop-i.i in
-    rw add-one (sym (alike eqb bytes text i 0 (omega arith) (omega arith) (eq-eqb (get_or bytes i 0) (get_or text i 0) c.if-bytes-i.false)) ∙ c.loop-i.invariant)
+    let here = eq-eqb (get_or bytes i 0) (get_or text i 0) c.if-bytes-i.false in
+    rw add-one (sym (alike eqb bytes text i 0 (omega arith) (omega arith) here) ∙ c.loop-i.invariant)
 
 pub returns : goal.returns
 returns c =

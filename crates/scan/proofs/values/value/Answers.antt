@@ -15,7 +15,8 @@ loop-i-preserved c =
     let i = c.loop-i.i in
     let n = c.loop-i.value in
     let digit : c.minus.result ≡ get_or word i 0 - 48 = c.minus.ensures ∙ ap (λ (x : ℕ). x - 48) c.wide.ensures.0 in
-    let value : c.lesser-value.result ≡ min most (n * 10 + (get_or word i 0 - 48)) = c.lesser-value.ensures ∙ ap (λ (x : ℕ). min most (n * 10 + x)) digit in (
+    let value : c.lesser-value.result ≡ min most (n * 10 + (get_or word i 0 - 48))
+    = c.lesser-value.ensures ∙ ap (λ (x : ℕ). min most (n * 10 + x)) digit in (
       omega arith,
       omega arith,
       rw (add-one, value, next_digit n (get_or word i 0) (drop (suc i) word), ← drop-cons word i 0 (omega arith)) c.loop-i.invariant.2,

@@ -10,7 +10,10 @@ pub returns-then-is_marked : goal.returns-then-is_marked
 unfolding line_means line_data
 returns-then-is_marked c =
     let a = c.args in
-    record { meaning = rw (← c.is_marked.ensures, c.if-is_marked.true); bytes = rw (← c.is_marked.ensures, c.if-is_marked.true) (nothing_put a.buffer.now) }
+    record {
+      meaning = rw (← c.is_marked.ensures, c.if-is_marked.true);
+      bytes = rw (← c.is_marked.ensures, c.if-is_marked.true) (nothing_put a.buffer.now);
+    }
 
 pub slice_bounds-text_meaning-end : goal.slice_bounds-text_meaning-end
 slice_bounds-text_meaning-end c =
@@ -19,4 +22,8 @@ slice_bounds-text_meaning-end c =
 
 pub returns : goal.returns
 unfolding line_means line_data
-returns c = record { meaning = rw (← c.is_marked.ensures, c.if-is_marked.false, ← c.until-end.ensures) c.text_meaning.ensures.meaning; bytes = rw (← c.is_marked.ensures, c.if-is_marked.false, ← c.until-end.ensures) c.text_meaning.ensures.bytes }
+returns c =
+    record {
+      meaning = rw (← c.is_marked.ensures, c.if-is_marked.false, ← c.until-end.ensures) c.text_meaning.ensures.meaning;
+      bytes = rw (← c.is_marked.ensures, c.if-is_marked.false, ← c.until-end.ensures) c.text_meaning.ensures.bytes;
+    }

@@ -25,7 +25,8 @@ returns-then-text-from c =
 pub returns-then-kind-ge-KINDS : goal.returns-then-kind-ge-KINDS
 unfolding step_means step_data
 returns-then-kind-ge-KINDS c =
-    let some : has_word c.args.text.now 0 ≡ true = rw (← c.until-from.ensures) (lt-ltb c.until-from.result (length c.args.text.now) c.if-text-from.false) in
+    let some : has_word c.args.text.now 0 ≡ true
+    = rw (← c.until-from.ensures) (lt-ltb c.until-from.result (length c.args.text.now) c.if-text-from.false) in
     let ends : c.until-to.result ≡ word_end c.args.text.now 0 = rw (← c.until-from.ensures) c.until-to.ensures in
     let kind : c.kind_named-kind.result ≡ step_kind c.args.text.now = rw (← ends, ← c.until-from.ensures) c.kind_named-kind.ensures in
     let unknown : is_kind (step_kind c.args.text.now) ≡ false = rw (← kind) (le-ltb c.kind_named-kind.result 5 c.if-kind-ge-KINDS.true) in
@@ -34,15 +35,20 @@ returns-then-kind-ge-KINDS c =
 pub returns : goal.returns
 unfolding step_means step_data
 returns c =
-    let some : has_word c.args.text.now 0 ≡ true = rw (← c.until-from.ensures) (lt-ltb c.until-from.result (length c.args.text.now) c.if-text-from.false) in
+    let some : has_word c.args.text.now 0 ≡ true
+    = rw (← c.until-from.ensures) (lt-ltb c.until-from.result (length c.args.text.now) c.if-text-from.false) in
     let ends : c.until-to.result ≡ word_end c.args.text.now 0 = rw (← c.until-from.ensures) c.until-to.ensures in
     let kind : c.kind_named-kind.result ≡ step_kind c.args.text.now = rw (← ends, ← c.until-from.ensures) c.kind_named-kind.ensures in
     let rest : let text = c.args.text.now in
     part text c.until-to.result (length text - c.until-to.result) ≡ behind_kind text = let text = c.args.text.now in
     take_all (length text - c.until-to.result) (drop c.until-to.result text) (omega (arith, length-drop c.until-to.result text))
-    ∙ ap (λ (n : ℕ). drop n text) (ends) in
+    ∙ ap (λ (n : ℕ). drop n text) ends in
     let text = c.args.text.now in
-    let known : is_kind (step_kind text) ≡ true = rw (← kind) (lt-ltb c.kind_named-kind.result 5 c.if-kind-ge-KINDS.false) in record { meaning = rw (some, known, ← kind, ← rest) c.meaning_of.ensures.meaning; bytes = rw (some, known, ← kind, ← rest) c.meaning_of.ensures.bytes }
+    let known : is_kind (step_kind text) ≡ true = rw (← kind) (lt-ltb c.kind_named-kind.result 5 c.if-kind-ge-KINDS.false) in
+    record {
+      meaning = rw (some, known, ← kind, ← rest) c.meaning_of.ensures.meaning;
+      bytes = rw (some, known, ← kind, ← rest) c.meaning_of.ensures.bytes;
+    }
 
 pub slice_bounds-meaning_of-count : goal.slice_bounds-meaning_of-count
 slice_bounds-meaning_of-count c =

@@ -18,10 +18,18 @@ pub returns-then-text-cut : goal.returns-then-text-cut
 unfolding text_means
 returns-then-text-cut c =
     let text = c.args.text.now in
-    let none : ltb (cut_of text) (length text) ≡ false = rw (← c.until-cut.ensures) (le-ltb c.until-cut.result (length text) c.if-text-cut.true) in record { meaning = rw (none, ← c.until-cut.ensures) c.step_meaning-meaning.ensures.meaning; bytes = rw (← c.until-cut.ensures) c.step_meaning-meaning.ensures.bytes }
+    let none : ltb (cut_of text) (length text) ≡ false = rw (← c.until-cut.ensures) (le-ltb c.until-cut.result (length text) c.if-text-cut.true) in
+    record {
+      meaning = rw (none, ← c.until-cut.ensures) c.step_meaning-meaning.ensures.meaning;
+      bytes = rw (← c.until-cut.ensures) c.step_meaning-meaning.ensures.bytes;
+    }
 
 pub returns : goal.returns
 unfolding text_means
 returns c =
     let text = c.args.text.now in
-    let some : ltb (cut_of text) (length text) ≡ true = rw (← c.until-cut.ensures) (lt-ltb c.until-cut.result (length text) c.if-text-cut.false) in record { meaning = rw (some, ← c.until-cut.ensures, ← c.step_meaning-meaning.ensures.meaning, ← c.has_word.ensures) c.expecting.ensures; bytes = rw (← c.until-cut.ensures) c.step_meaning-meaning.ensures.bytes }
+    let some : ltb (cut_of text) (length text) ≡ true = rw (← c.until-cut.ensures) (lt-ltb c.until-cut.result (length text) c.if-text-cut.false) in
+    record {
+      meaning = rw (some, ← c.until-cut.ensures, ← c.step_meaning-meaning.ensures.meaning, ← c.has_word.ensures) c.expecting.ensures;
+      bytes = rw (← c.until-cut.ensures) c.step_meaning-meaning.ensures.bytes;
+    }
