@@ -7,7 +7,6 @@ use Rattle.state.specs.Verdict.{Reply, accepted}
 use Rattle.state.proofs.Verdict.{says_of}
 use Rattle.bytemap.specs.Map.{Map, map_of}
 use Rattle.bytemap.specs.Fetch.{fetch_says, fetch_map, fetch_dest}
-use Rattle.mapfetch.specs.Delivery.{Fits}
 use Rattle.mapfetch.proofs.Fitting.{fetched}
 use Rattle.mapfetch.proofs.fetch_words.Goals as goal
 
@@ -17,7 +16,7 @@ returns-in-Refused c =
     let lent : Map = map_of c.args.flag c.args.words.now c.args.values.now in
     let said : Reply = fetch_says lent (length c.args.window.now) (length c.args.destination.now) c.args.address c.args.size in
     let says = says_of map_fetch_reply c.judge-answer.ensures c.in-Refused.is in
-    let no : accepted (said) ≡ false = ap accepted says in
+    let no : accepted said ≡ false = ap accepted says in
     record { answer = sym says; map = rw no; delivered = rw no }
 
 pub returns-in-Done : goal.returns-in-Done
@@ -25,12 +24,12 @@ unfolding fetch_map fetch_dest accepted
 returns-in-Done c =
     let lent : Map = map_of c.args.flag c.args.words.now c.args.values.now in
     let said : Reply = fetch_says lent (length c.args.window.now) (length c.args.destination.now) c.args.address c.args.size in
-    let yes : accepted (said) ≡ true = ap accepted (says_of map_fetch_reply c.judge-answer.ensures c.in-Done.is) in
+    let yes : accepted said ≡ true = ap accepted (says_of map_fetch_reply c.judge-answer.ensures c.in-Done.is) in
     let done = c.deliver.ensures in
     record {
       answer = sym (says_of map_fetch_reply c.judge-answer.ensures c.in-Done.is);
-      map = rw (yes) (ap₂ (map_of c.args.flag) done.bits done.held);
-      delivered = rw (yes) done.delivered;
+      map = rw yes (ap₂ (map_of c.args.flag) done.bits done.held);
+      delivered = rw yes done.delivered;
     }
 
 pub deliver-requires : goal.deliver-requires
@@ -38,7 +37,5 @@ unfolding accepted
 deliver-requires c =
     let lent : Map = map_of c.args.flag c.args.words.now c.args.values.now in
     let said : Reply = fetch_says lent (length c.args.window.now) (length c.args.destination.now) c.args.address c.args.size in
-    let yes : accepted (said) ≡ true = ap accepted (says_of map_fetch_reply c.judge-answer.ensures c.in-Done.is) in
-    let fits : let a = c.args in
-    Fits (length a.words.now) (length a.values.now) (length a.window.now) (length a.destination.now) a.address a.size = fetched (lent) _ _ _ _ c.requires.0 c.requires.1 yes in
-    fits
+    let yes : accepted said ≡ true = ap accepted (says_of map_fetch_reply c.judge-answer.ensures c.in-Done.is) in
+    fetched lent _ _ _ _ c.requires.0 c.requires.1 yes

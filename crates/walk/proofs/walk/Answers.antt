@@ -56,5 +56,5 @@ returns c =
     let a = c.args in
     rw c.clear.ensures
     (whole_walk a.state.now a.store.now a.command a.prp1 a.prp2 a.transfer a.window.now a.scratch.now
-    a.addresses.now a.lengths.now (passed) _ _ _ (scratch') (sized) c.gather-gathered.ensures _ _ _
+    a.addresses.now a.lengths.now passed _ _ _ scratch' sized c.gather-gathered.ensures _ _ _
     c.conclude-answer.ensures)

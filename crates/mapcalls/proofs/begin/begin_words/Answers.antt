@@ -13,7 +13,7 @@ unfolding accepted begin_map
 returns-in-Refused c =
     let lent : Map = map_of c.args.flag.now c.args.words.now c.args.values.now in
     let says = says_of begin_reply c.judge-answer.ensures c.in-Refused.is in
-    let no : accepted (begin_says (lent)) ≡ false = ap accepted says in
+    let no : accepted (begin_says lent) ≡ false = ap accepted says in
     record { answer = sym says; map = rw no }
 
 pub returns-in-Done : goal.returns-in-Done
@@ -21,5 +21,5 @@ unfolding accepted begin_map
 returns-in-Done c =
     let lent : Map = map_of c.args.flag.now c.args.words.now c.args.values.now in
     let says = says_of begin_reply c.judge-answer.ensures c.in-Done.is in
-    let yes : accepted (begin_says (lent)) ≡ true = ap accepted says in
+    let yes : accepted (begin_says lent) ≡ true = ap accepted says in
     record { answer = sym says; map = rw yes c.reset.ensures }

@@ -1,5 +1,5 @@
 -- The checks in their order: the first that applies is given. Each test that is passed makes its check false, and the rest decide.
-use Prim.Native.Nat.{◌+◌, ◌≤◌}
+use Prim.Native.Nat.{ℕ, ◌+◌, ◌≤◌, ◌<◌}
 use native.Mathlib.Omega.{arith}
 use mathlib.Core.Path.{◌≡◌, ap, sym, ◌∙◌}
 use mathlib.Core.List.{List, [], ◌∷◌}
@@ -15,6 +15,26 @@ use Rattle.bytemap.specs.Fetch.{runs_then, fresh_count, replayed_count, fetch_ch
 use Rattle.mapfetch.proofs.Counting.{more_than}
 use Rattle.mapfetch.proofs.judge.judge.Goals as goal
 
+-- what is left to decide once the first two checks are passed, once the next two are, and once the next two are
+module _ (m : Map) (window_len dest_len a n : ℕ) where
+  abbrev checks : List Check
+  checks = fetch_checks m window_len dest_len a n
+
+  abbrev reply : Reply
+  reply = replied (fresh_count m a n ∷ replayed_count m a n ∷ [])
+
+  past_two : n ≤ transfer_limit → window_len ≤ map_limit → verdict checks reply ≡ verdict (drop 2 checks) reply
+  unfolding verdict
+  past_two short small = rw (le-ltb transfer_limit n short, le-ltb map_limit window_len small)
+
+  past_four : ltb window_len (a + n) ≡ false → n ≤ dest_len → verdict (drop 2 checks) reply ≡ verdict (drop 4 checks) reply
+  unfolding verdict
+  past_four inside room = rw (inside, le-ltb dest_len n room)
+
+  past_six : holds m ≡ true → 0 < m.flag → verdict (drop 4 checks) reply ≡ verdict (drop 6 checks) reply
+  unfolding verdict
+  past_six whole opened = rw (whole, lt-ltb 0 m.flag opened)
+
 pub returns-then-size-gt-TRANSFER : goal.returns-then-size-gt-TRANSFER
 unfolding fetch_says verdict
 returns-then-size-gt-TRANSFER c = rw (lt-ltb transfer_limit c.args.size (omega arith))
@@ -28,89 +48,69 @@ returns-then-window_len-gt-ADDRESSES c =
 pub returns-then-outside : goal.returns-then-outside
 unfolding fetch_says verdict
 returns-then-outside c =
-    let lent : Map = map_of c.args.flag c.args.words.now c.args.values.now in
-    let checks : List Check = fetch_checks lent c.args.window_len c.args.destination_len c.args.address c.args.size in
-    let reply : Reply = replied (fresh_count lent c.args.address c.args.size ∷ replayed_count lent c.args.address c.args.size ∷ []) in
-    let short : ltb transfer_limit c.args.size ≡ false = le-ltb transfer_limit c.args.size (omega arith) in
-    let past_two : verdict (checks) (reply) ≡ verdict (drop 2 (checks)) (reply) = rw (short, le-ltb map_limit c.args.window_len (omega arith)) in
-    sym (past_two ∙ rw (sym c.outside.ensures ∙ c.if-outside.true))
+    let a = c.args in
+    let lent : Map = map_of a.flag a.words.now a.values.now in
+    let two = past_two lent a.window_len a.destination_len a.address a.size (omega arith) (omega arith) in
+    sym (two ∙ rw (sym c.outside.ensures ∙ c.if-outside.true))
 
 pub returns-then-destination_len-size : goal.returns-then-destination_len-size
 unfolding fetch_says verdict
 returns-then-destination_len-size c =
-    let lent : Map = map_of c.args.flag c.args.words.now c.args.values.now in
-    let checks : List Check = fetch_checks lent c.args.window_len c.args.destination_len c.args.address c.args.size in
-    let reply : Reply = replied (fresh_count lent c.args.address c.args.size ∷ replayed_count lent c.args.address c.args.size ∷ []) in
-    let short : ltb transfer_limit c.args.size ≡ false = le-ltb transfer_limit c.args.size (omega arith) in
-    let past_two : verdict (checks) (reply) ≡ verdict (drop 2 (checks)) (reply) = rw (short, le-ltb map_limit c.args.window_len (omega arith)) in
-    let inside : ltb c.args.window_len (c.args.address + c.args.size) ≡ false = sym c.outside.ensures ∙ c.if-outside.false in
-    sym (past_two ∙ rw (inside, lt-ltb c.args.destination_len c.args.size (omega arith)))
+    let a = c.args in
+    let lent : Map = map_of a.flag a.words.now a.values.now in
+    let two = past_two lent a.window_len a.destination_len a.address a.size (omega arith) (omega arith) in
+    let inside : ltb a.window_len (a.address + a.size) ≡ false = sym c.outside.ensures ∙ c.if-outside.false in
+    sym (two ∙ rw (inside, lt-ltb a.destination_len a.size (omega arith)))
 
 pub returns-then-not-holds : goal.returns-then-not-holds
 unfolding fetch_says verdict
 returns-then-not-holds c =
-    let lent : Map = map_of c.args.flag c.args.words.now c.args.values.now in
-    let checks : List Check = fetch_checks lent c.args.window_len c.args.destination_len c.args.address c.args.size in
-    let reply : Reply = replied (fresh_count lent c.args.address c.args.size ∷ replayed_count lent c.args.address c.args.size ∷ []) in
-    let short : ltb transfer_limit c.args.size ≡ false = le-ltb transfer_limit c.args.size (omega arith) in
-    let past_two : verdict (checks) (reply) ≡ verdict (drop 2 (checks)) (reply) = rw (short, le-ltb map_limit c.args.window_len (omega arith)) in
-    let inside : ltb c.args.window_len (c.args.address + c.args.size) ≡ false = sym c.outside.ensures ∙ c.if-outside.false in
-    let past_four : verdict (checks) (reply) ≡ verdict (drop 4 (checks)) (reply) = past_two ∙ rw (inside, le-ltb c.args.destination_len c.args.size (omega arith)) in
-    sym (past_four ∙ rw (sym c.holds.ensures ∙ c.if-not-holds.true))
+    let a = c.args in
+    let lent : Map = map_of a.flag a.words.now a.values.now in
+    let two = past_two lent a.window_len a.destination_len a.address a.size (omega arith) (omega arith) in
+    let four = past_four lent a.window_len a.destination_len a.address a.size (sym c.outside.ensures ∙ c.if-outside.false) (omega arith) in
+    sym (two ∙ four ∙ rw (sym c.holds.ensures ∙ c.if-not-holds.true))
 
 pub returns-then-flag-eq0 : goal.returns-then-flag-eq0
 unfolding fetch_says verdict
 returns-then-flag-eq0 c =
-    let lent : Map = map_of c.args.flag c.args.words.now c.args.values.now in
-    let checks : List Check = fetch_checks lent c.args.window_len c.args.destination_len c.args.address c.args.size in
-    let reply : Reply = replied (fresh_count lent c.args.address c.args.size ∷ replayed_count lent c.args.address c.args.size ∷ []) in
-    let short : ltb transfer_limit c.args.size ≡ false = le-ltb transfer_limit c.args.size (omega arith) in
-    let past_two : verdict (checks) (reply) ≡ verdict (drop 2 (checks)) (reply) = rw (short, le-ltb map_limit c.args.window_len (omega arith)) in
-    let inside : ltb c.args.window_len (c.args.address + c.args.size) ≡ false = sym c.outside.ensures ∙ c.if-outside.false in
-    let past_four : verdict (checks) (reply) ≡ verdict (drop 4 (checks)) (reply) = past_two ∙ rw (inside, le-ltb c.args.destination_len c.args.size (omega arith)) in
-    let whole : holds (lent) ≡ true = sym c.holds.ensures ∙ c.if-not-holds.false in
-    sym (past_four ∙ rw (whole, le-ltb 0 c.args.flag (omega arith)))
+    let a = c.args in
+    let lent : Map = map_of a.flag a.words.now a.values.now in
+    let two = past_two lent a.window_len a.destination_len a.address a.size (omega arith) (omega arith) in
+    let four = past_four lent a.window_len a.destination_len a.address a.size (sym c.outside.ensures ∙ c.if-outside.false) (omega arith) in
+    let whole : holds lent ≡ true = sym c.holds.ensures ∙ c.if-not-holds.false in
+    sym (two ∙ four ∙ rw (whole, le-ltb 0 a.flag (omega arith)))
 
 pub returns-then-not-has_room : goal.returns-then-not-has_room
 unfolding fetch_says verdict
 returns-then-not-has_room c =
-    let lent : Map = map_of c.args.flag c.args.words.now c.args.values.now in
-    let checks : List Check = fetch_checks lent c.args.window_len c.args.destination_len c.args.address c.args.size in
-    let reply : Reply = replied (fresh_count lent c.args.address c.args.size ∷ replayed_count lent c.args.address c.args.size ∷ []) in
-    let short : ltb transfer_limit c.args.size ≡ false = le-ltb transfer_limit c.args.size (omega arith) in
-    let past_two : verdict (checks) (reply) ≡ verdict (drop 2 (checks)) (reply) = rw (short, le-ltb map_limit c.args.window_len (omega arith)) in
-    let inside : ltb c.args.window_len (c.args.address + c.args.size) ≡ false = sym c.outside.ensures ∙ c.if-outside.false in
-    let past_four : verdict (checks) (reply) ≡ verdict (drop 4 (checks)) (reply) = past_two ∙ rw (inside, le-ltb c.args.destination_len c.args.size (omega arith)) in
-    let whole : holds (lent) ≡ true = sym c.holds.ensures ∙ c.if-not-holds.false in
-    let past_six : verdict (checks) (reply) ≡ verdict (drop 6 (checks)) (reply) = past_four ∙ rw (whole, lt-ltb 0 c.args.flag (omega arith)) in
-    let full : ltb record_limit (length (runs_then (lent) c.args.address c.args.size)) ≡ not c.has_room.result = more_than record_limit (length (runs_then (lent) c.args.address c.args.size)) ∙ ap not (sym c.has_room.ensures) in
-    sym (past_six ∙ rw (full ∙ ap not c.if-not-has_room.true))
+    let a = c.args in
+    let lent : Map = map_of a.flag a.words.now a.values.now in
+    let two = past_two lent a.window_len a.destination_len a.address a.size (omega arith) (omega arith) in
+    let four = past_four lent a.window_len a.destination_len a.address a.size (sym c.outside.ensures ∙ c.if-outside.false) (omega arith) in
+    let six = past_six lent a.window_len a.destination_len a.address a.size (sym c.holds.ensures ∙ c.if-not-holds.false) (omega arith) in
+    let full = more_than record_limit (length (runs_then lent a.address a.size)) ∙ ap not (sym c.has_room.ensures ∙ c.if-not-has_room.true) in
+    sym (two ∙ four ∙ six ∙ rw full)
 
 pub returns : goal.returns
 unfolding fetch_says verdict
 returns c =
-    let lent : Map = map_of c.args.flag c.args.words.now c.args.values.now in
-    let checks : List Check = fetch_checks lent c.args.window_len c.args.destination_len c.args.address c.args.size in
-    let reply : Reply = replied (fresh_count lent c.args.address c.args.size ∷ replayed_count lent c.args.address c.args.size ∷ []) in
-    let short : ltb transfer_limit c.args.size ≡ false = le-ltb transfer_limit c.args.size (omega arith) in
-    let past_two : verdict (checks) (reply) ≡ verdict (drop 2 (checks)) (reply) = rw (short, le-ltb map_limit c.args.window_len (omega arith)) in
-    let inside : ltb c.args.window_len (c.args.address + c.args.size) ≡ false = sym c.outside.ensures ∙ c.if-outside.false in
-    let past_four : verdict (checks) (reply) ≡ verdict (drop 4 (checks)) (reply) = past_two ∙ rw (inside, le-ltb c.args.destination_len c.args.size (omega arith)) in
-    let whole : holds (lent) ≡ true = sym c.holds.ensures ∙ c.if-not-holds.false in
-    let past_six : verdict (checks) (reply) ≡ verdict (drop 6 (checks)) (reply) = past_four ∙ rw (whole, lt-ltb 0 c.args.flag (omega arith)) in
-    let full : ltb record_limit (length (runs_then (lent) c.args.address c.args.size)) ≡ not c.has_room.result = more_than record_limit (length (runs_then (lent) c.args.address c.args.size)) ∙ ap not (sym c.has_room.ensures) in
-    c.counted.ensures ∙ sym (past_six ∙ rw (full ∙ ap not c.if-not-has_room.false))
+    let a = c.args in
+    let lent : Map = map_of a.flag a.words.now a.values.now in
+    let two = past_two lent a.window_len a.destination_len a.address a.size (omega arith) (omega arith) in
+    let four = past_four lent a.window_len a.destination_len a.address a.size (sym c.outside.ensures ∙ c.if-outside.false) (omega arith) in
+    let six = past_six lent a.window_len a.destination_len a.address a.size (sym c.holds.ensures ∙ c.if-not-holds.false) (omega arith) in
+    let room = more_than record_limit (length (runs_then lent a.address a.size)) ∙ ap not (sym c.has_room.ensures ∙ c.if-not-has_room.false) in
+    c.counted.ensures ∙ sym (two ∙ four ∙ six ∙ rw room)
 
 pub has_room-requires : goal.has_room-requires
 has_room-requires c =
-    let inside : ltb c.args.window_len (c.args.address + c.args.size) ≡ false = sym c.outside.ensures ∙ c.if-outside.false in
-    let within : c.args.address + c.args.size ≤ map_limit = omega (arith, ltb-false c.args.window_len (c.args.address + c.args.size) (inside)) in
-    let fits : c.args.address + c.args.size ≤ map_limit = within in
-    (c.requires.0, c.runs-runs.ensures, fits)
+    let a = c.args in
+    let inside : ltb a.window_len (a.address + a.size) ≡ false = sym c.outside.ensures ∙ c.if-outside.false in
+    (c.requires.0, c.runs-runs.ensures, omega (arith, ltb-false a.window_len (a.address + a.size) inside))
 
 pub counted-requires : goal.counted-requires
 counted-requires c =
-    let inside : ltb c.args.window_len (c.args.address + c.args.size) ≡ false = sym c.outside.ensures ∙ c.if-outside.false in
-    let within : c.args.address + c.args.size ≤ map_limit = omega (arith, ltb-false c.args.window_len (c.args.address + c.args.size) (inside)) in
-    let fits : c.args.address + c.args.size ≤ map_limit = within in
-    (c.requires.0, fits)
+    let a = c.args in
+    let inside : ltb a.window_len (a.address + a.size) ≡ false = sym c.outside.ensures ∙ c.if-outside.false in
+    (c.requires.0, omega (arith, ltb-false a.window_len (a.address + a.size) inside))

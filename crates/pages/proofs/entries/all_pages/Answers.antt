@@ -5,19 +5,15 @@ use native.Mathlib.Omega.{arith}
 use mathlib.Core.Path.{◌≡◌, ap, sym, ◌∙◌}
 use mathlib.Core.Logic.{◌≢◌}
 use mathlib.Core.List.{List}
-use mathlib.Core.Bool.{Bool, true, false, ◌&&◌}
-use lib.ListN.{drop}
+use mathlib.Core.Bool.{true, false, ◌&&◌}
 use borrow.Author.Tests.{eq-eqb, ne_eqb}
 use Rattle.octets.specs.Lists.{all, part}
 use Rattle.endian.specs.LittleEndian.{least_first}
 use Rattle.prp.specs.Pages.{page_size}
 use Rattle.prp.specs.Entries.{entries_in, is_multiple}
 use Rattle.prp.proofs.Reading.{next_entry}
+use Rattle.pages.proofs.entries.all_pages.Invariants.{from}
 use Rattle.pages.proofs.entries.all_pages.Goals as goal
-
--- what the entries from i on say
-abbrev from : List ℕ → (count i : ℕ) → Bool
-from bytes count i = all (is_multiple page_size) (entries_in (count - i) (drop (8 * i) bytes))
 
 module _ (bytes : List ℕ) (count : ℕ) where
   start : from bytes count 0 ≡ all (is_multiple page_size) (entries_in count bytes)

@@ -10,11 +10,14 @@ use Rattle.prp.specs.Entries.{entries_in, is_multiple}
 use Rattle.pages.proofs.entries.all_pages.Given as goal
 
 -- what the entries from i on say
-abbrev from : List ℕ → (count i : ℕ) → Bool
+abbrev pub from : List ℕ → (count i : ℕ) → Bool
 from bytes count i = all (is_multiple page_size) (entries_in (count - i) (drop (8 * i) bytes))
 
 abbrev pub invariant-loop-i : goal.invariant-loop-i
-invariant-loop-i l = (l.i ≤ l.count) × (8 * l.count ≤ length l.bytes) × (from l.bytes l.count l.i ≡ all (is_multiple page_size) (entries_in l.count l.bytes))
+invariant-loop-i l =
+    (l.i ≤ l.count)
+    × (8 * l.count ≤ length l.bytes)
+    × (from l.bytes l.count l.i ≡ all (is_multiple page_size) (entries_in l.count l.bytes))
 
 abbrev pub decreases-loop-i : goal.decreases-loop-i
 decreases-loop-i l = l.count - l.i

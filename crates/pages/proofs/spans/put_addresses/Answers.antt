@@ -31,8 +31,8 @@ returns-then-needed-eq1 c =
 
 pub returns : goal.returns
 returns c =
-    let list : List ℕ = c.args.list.now in
-    let bytes : List ℕ = c.args.bytes.now in
-    let whole : c.put_entries.new.list ≡ overwrite list 0 (c.args.prp1 ∷ entries_in c.args.needed bytes) = c.put_entries.ensures ∙ behind_first list c.args.prp1 (entries_in c.args.needed bytes) (omega arith) in
     let a = c.args in
-    whole ∙ ap (λ (es : List ℕ). overwrite (list) 0 (a.prp1 ∷ es)) (sym (behind_some a.prp2 a.needed (bytes) (omega arith)))
+    let list : List ℕ = a.list.now in
+    let bytes : List ℕ = a.bytes.now in
+    c.put_entries.ensures ∙ behind_first list a.prp1 (entries_in a.needed bytes) (omega arith)
+    ∙ ap (λ (es : List ℕ). overwrite list 0 (a.prp1 ∷ es)) (sym (behind_some a.prp2 a.needed bytes (omega arith)))

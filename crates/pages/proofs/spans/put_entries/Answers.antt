@@ -9,11 +9,8 @@ use Rattle.octets.proofs.Overwrite.{overwrite_none, overwrite_more}
 use Rattle.endian.specs.LittleEndian.{least_first}
 use Rattle.prp.specs.Entries.{entries_in}
 use Rattle.prp.proofs.Reading.{next_entry}
+use Rattle.pages.proofs.spans.put_entries.Invariants.{with_from}
 use Rattle.pages.proofs.spans.put_entries.Goals as goal
-
--- the list once the entries from i on are put
-abbrev with_from : (list bytes : List ℕ) (count i : ℕ) → List ℕ
-with_from list bytes count i = overwrite list (suc i) (entries_in (count - i) (drop (8 * i) bytes))
 
 module _ (list bytes : List ℕ) (count : ℕ) where
   none : list ≡ with_from list bytes count count
@@ -41,7 +38,7 @@ loop-i-preserved c =
     let i = c.loop-i.i in
     let room : a.count < length a.list.now = omega arith in
     let stored : set c.loop-i.list i c.entry.result ≡ with_from a.list.now a.bytes.now a.count (i - 1) =
-    rw (c.loop-i.invariant.3, c.entry.ensures) (one_more a.list.now a.bytes.now a.count i (omega arith) (omega arith) room) in
+        rw (c.loop-i.invariant.3, c.entry.ensures) (one_more a.list.now a.bytes.now a.count i (omega arith) (omega arith) room) in
     (omega arith, c.loop-i.invariant.1, simp length-set (omega arith), stored, simp length-set (omega arith))
 
 pub returns : goal.returns

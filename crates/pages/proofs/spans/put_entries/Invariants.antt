@@ -8,11 +8,16 @@ use Rattle.prp.specs.Entries.{entries_in}
 use Rattle.pages.proofs.spans.put_entries.Given as goal
 
 -- the list once the entries from i on are put
-abbrev with_from : (list bytes : List ℕ) (count i : ℕ) → List ℕ
+abbrev pub with_from : (list bytes : List ℕ) (count i : ℕ) → List ℕ
 with_from list bytes count i = overwrite list (suc i) (entries_in (count - i) (drop (8 * i) bytes))
 
 abbrev pub invariant-loop-i : goal.invariant-loop-i
-invariant-loop-i l = (l.i ≤ l.count) × (8 * l.count ≤ length l.bytes) × (l.count < length l.list) × (l.list ≡ with_from l.initial.list l.bytes l.count l.i) × (length l.list ≡ length l.initial.list)
+invariant-loop-i l =
+    (l.i ≤ l.count)
+    × (8 * l.count ≤ length l.bytes)
+    × (l.count < length l.list)
+    × (l.list ≡ with_from l.initial.list l.bytes l.count l.i)
+    × (length l.list ≡ length l.initial.list)
 
 abbrev pub decreases-loop-i : goal.decreases-loop-i
 decreases-loop-i l = l.i

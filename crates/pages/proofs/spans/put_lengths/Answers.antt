@@ -8,11 +8,8 @@ use Rattle.octets.specs.Lists.{overwrite}
 use Rattle.octets.proofs.Overwrite.{overwrite_none, overwrite_more}
 use Rattle.state.specs.Records.{span}
 use Rattle.prp.specs.Pages.{share_in}
+use Rattle.pages.proofs.spans.put_lengths.Invariants.{with_from}
 use Rattle.pages.proofs.spans.put_lengths.Goals as goal
-
--- the list once the lengths from i on are put
-abbrev with_from : (list : List ℕ) (share : ℕ → ℕ) (count i : ℕ) → List ℕ
-with_from list share count i = overwrite list i (map share (span i (count - i)))
 
 module _ (list : List ℕ) (share : ℕ → ℕ) (count : ℕ) where
   none : list ≡ with_from list share count count
@@ -43,7 +40,7 @@ loop-i-preserved c =
     let share = share_in a.offset a.reach in
     let room : a.count ≤ length a.list.now = omega arith in
     let stored : set c.loop-i.list (i - 1) c.share_in.result ≡ with_from a.list.now share a.count (i - 1) =
-    rw (c.loop-i.invariant.3, c.share_in.ensures) (one_more a.list.now share a.count i (omega arith) (omega arith) room) in
+        rw (c.loop-i.invariant.3, c.share_in.ensures) (one_more a.list.now share a.count i (omega arith) (omega arith) room) in
     (omega arith, simp length-set (omega arith), c.loop-i.invariant.2, stored, simp length-set (omega arith))
 
 pub returns : goal.returns

@@ -9,11 +9,16 @@ use Rattle.prp.specs.Pages.{share_in}
 use Rattle.pages.proofs.spans.put_lengths.Given as goal
 
 -- the list once the lengths from i on are put
-abbrev with_from : (list : List ℕ) (share : ℕ → ℕ) (count i : ℕ) → List ℕ
+abbrev pub with_from : (list : List ℕ) (share : ℕ → ℕ) (count i : ℕ) → List ℕ
 with_from list share count i = overwrite list i (map share (span i (count - i)))
 
 abbrev pub invariant-loop-i : goal.invariant-loop-i
-invariant-loop-i l = (l.i ≤ l.count) × (l.count ≤ length l.list) × (l.count ≤ 17) × (l.list ≡ with_from l.initial.list (share_in l.offset l.reach) l.count l.i) × (length l.list ≡ length l.initial.list)
+invariant-loop-i l =
+    (l.i ≤ l.count)
+    × (l.count ≤ length l.list)
+    × (l.count ≤ 17)
+    × (l.list ≡ with_from l.initial.list (share_in l.offset l.reach) l.count l.i)
+    × (length l.list ≡ length l.initial.list)
 
 abbrev pub decreases-loop-i : goal.decreases-loop-i
 decreases-loop-i l = l.i

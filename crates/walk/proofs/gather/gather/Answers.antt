@@ -17,7 +17,7 @@ returns-then-prp1-ne0 c =
     let words : List ℕ = c.args.state.now in
     let store : List ℕ = c.args.store.now in
     let scratch : List ℕ = c.args.scratch.now in
-    wrong_first (words) (store) (w) (scratch) (ne_eqb (c.args.prp1 % 4) 0 (omega arith))
+    wrong_first words store w scratch (ne_eqb (c.args.prp1 % 4) 0 (omega arith))
 
 pub returns-then-behind-gt1 : goal.returns-then-behind-gt1
 returns-then-behind-gt1 c =
@@ -25,8 +25,8 @@ returns-then-behind-gt1 c =
     let words : List ℕ = c.args.state.now in
     let store : List ℕ = c.args.store.now in
     let right : is_multiple 4 c.args.prp1 ≡ true = eq-eqb (c.args.prp1 % 4) 0 (omega arith) in
-    let count_is : c.behind_first-behind.result ≡ needed (w) = c.behind_first-behind.ensures.0 in
-    by_lists (words) (store) (w) (right) _ _ _ _ (lt-ltb 1 (needed (w)) (omega (arith, count_is)))
+    let count_is : c.behind_first-behind.result ≡ needed w = c.behind_first-behind.ensures.0 in
+    by_lists words store w right _ _ _ _ (lt-ltb 1 (needed w) (omega (arith, count_is)))
     c.gather_lists.ensures
 
 pub returns-then-behind-eq0 : goal.returns-then-behind-eq0
@@ -35,8 +35,8 @@ returns-then-behind-eq0 c =
     let words : List ℕ = c.args.state.now in
     let store : List ℕ = c.args.store.now in
     let right : is_multiple 4 c.args.prp1 ≡ true = eq-eqb (c.args.prp1 % 4) 0 (omega arith) in
-    let count_is : c.behind_first-behind.result ≡ needed (w) = c.behind_first-behind.ensures.0 in
-    none_needed (words) (store) (w) (right) (le-ltb 1 (needed (w)) (omega (arith, count_is))) _ (omega (arith, count_is))
+    let count_is : c.behind_first-behind.result ≡ needed w = c.behind_first-behind.ensures.0 in
+    none_needed words store w right (le-ltb 1 (needed w) (omega (arith, count_is))) _ (omega (arith, count_is))
 
 pub returns-then-prp2-ne0 : goal.returns-then-prp2-ne0
 returns-then-prp2-ne0 c =
@@ -44,8 +44,8 @@ returns-then-prp2-ne0 c =
     let words : List ℕ = c.args.state.now in
     let store : List ℕ = c.args.store.now in
     let right : is_multiple 4 c.args.prp1 ≡ true = eq-eqb (c.args.prp1 % 4) 0 (omega arith) in
-    let count_is : c.behind_first-behind.result ≡ needed (w) = c.behind_first-behind.ensures.0 in
-    second_wrong (words) (store) (w) (right) (le-ltb 1 (needed (w)) (omega (arith, count_is))) _ (omega (arith, count_is))
+    let count_is : c.behind_first-behind.result ≡ needed w = c.behind_first-behind.ensures.0 in
+    second_wrong words store w right (le-ltb 1 (needed w) (omega (arith, count_is))) _ (omega (arith, count_is))
     (ne_eqb (c.args.prp2 % 4096) 0 (omega arith))
 
 pub returns : goal.returns
@@ -54,6 +54,6 @@ returns c =
     let words : List ℕ = c.args.state.now in
     let store : List ℕ = c.args.store.now in
     let right : is_multiple 4 c.args.prp1 ≡ true = eq-eqb (c.args.prp1 % 4) 0 (omega arith) in
-    let count_is : c.behind_first-behind.result ≡ needed (w) = c.behind_first-behind.ensures.0 in
-    second_right (words) (store) (w) (right) (le-ltb 1 (needed (w)) (omega (arith, count_is))) _ (omega (arith, count_is))
+    let count_is : c.behind_first-behind.result ≡ needed w = c.behind_first-behind.ensures.0 in
+    second_right words store w right (le-ltb 1 (needed w) (omega (arith, count_is))) _ (omega (arith, count_is))
     (eq-eqb (c.args.prp2 % 4096) 0 (omega arith))
