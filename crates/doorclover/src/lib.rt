@@ -1,6 +1,7 @@
 // What firmware links: every call as a function for C, thin over the proved ones, with its reply as the crate replies gives it from what
 // the call says. A journal has no status, since every journal is run.
 #![tactic(auto)]
+
 mod frame;
 mod map;
 mod page_walk;

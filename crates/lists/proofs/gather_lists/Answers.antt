@@ -93,8 +93,8 @@ returns c =
     let held : List ℕ = entries ++ drop (8 * c.room_in_page-fit.result) c.args.scratch.now in
     let next : ℕ = onward (asks_of (given words store)) v in
     let onward_is : c.entry-onward.result ≡ next =
-        c.entry-onward.ensures ∙ ap (λ (f : ℕ). least_first (part held (8 * (f - 1)) 8)) fit_is
-        ∙ onward_read words store v right _ _ _ entries page linked listed look gathered some _ in
+    c.entry-onward.ensures ∙ ap (λ (f : ℕ). least_first (part held (8 * (f - 1)) 8)) fit_is
+    ∙ onward_read words store v right _ _ _ entries page linked listed look gathered some _ in
     let rest : c.behind_first-count.result - (c.room_in_page-fit.result - 1) ≡ second_count v = omega (arith, count_is, fit_is) in
     let second = rw (onward_is, rest) at c.list_page-second.ensures in
     two_pages_lem words store v right _ _ _ entries page linked listed look gathered some _ _ _ c.list_page-second.new.entries second

@@ -38,7 +38,7 @@ loop-i-preserved c =
     let i = c.loop-i.i in
     let room : a.count < length a.list.now = omega arith in
     let stored : set c.loop-i.list i c.entry.result ≡ with_from a.list.now a.bytes.now a.count (i - 1) =
-        rw (c.loop-i.invariant.3, c.entry.ensures) (one_more a.list.now a.bytes.now a.count i (omega arith) (omega arith) room) in
+    rw (c.loop-i.invariant.3, c.entry.ensures) (one_more a.list.now a.bytes.now a.count i (omega arith) (omega arith) room) in
     (omega arith, c.loop-i.invariant.1, simp length-set (omega arith), stored, simp length-set (omega arith))
 
 pub returns : goal.returns

@@ -40,7 +40,7 @@ loop-i-preserved c =
     let share = share_in a.offset a.reach in
     let room : a.count ≤ length a.list.now = omega arith in
     let stored : set c.loop-i.list (i - 1) c.share_in.result ≡ with_from a.list.now share a.count (i - 1) =
-        rw (c.loop-i.invariant.3, c.share_in.ensures) (one_more a.list.now share a.count i (omega arith) (omega arith) room) in
+    rw (c.loop-i.invariant.3, c.share_in.ensures) (one_more a.list.now share a.count i (omega arith) (omega arith) room) in
     (omega arith, simp length-set (omega arith), c.loop-i.invariant.2, stored, simp length-set (omega arith))
 
 pub returns : goal.returns
