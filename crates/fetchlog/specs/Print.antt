@@ -1,5 +1,5 @@
--- What the log program does with a journal, as far as it can be said of a program. What is printed is not spoken of; what stands in the
--- buffer of which a frame's line is written, and how much of it is the line, is.
+-- What the log program does with a journal, whether a line is written or not: what stands in the buffer of which a frame's line is written,
+-- and how much of it is the line. What is printed is said by the clauses `printed` of the functions.
 use Rattle.std.specs.Prelude.{ℕ, ◌≡◌, List, length}
 use Rattle.state.specs.Verdict.{accepted}
 use Rattle.octets.specs.Lists.{overwrite, count}

@@ -1,6 +1,10 @@
 // A journal is run. The line of each frame is made whole at the front of a buffer and written to standard output.
-ghost use Rattle.std.specs.Prelude.{◌≡◌, cond, ◌+◌, ◌-◌, ◌≤◌, ◌<◌, ◌^◌, length};
+ghost use Rattle.std.specs.Prelude.{◌≡◌, cond, ◌+◌, ◌-◌, ◌≤◌, ◌<◌, ◌^◌, length, IsTrue};
+ghost use Rattle.std.specs.Io.KnownBytes.{Appends};
+ghost use Rattle.loglines.specs.Line.{line_of};
 ghost use Rattle.device.specs.Step.{device_of};
+ghost use Rattle.device.specs.Frame.{letter_of, frame_says, frame_delivers};
+ghost use Rattle.journal.specs.Run.{entries, log_from};
 ghost use Rattle.fetchlog.specs.Print.{Shows, Prints};
 
 use console::Streams;
@@ -44,7 +48,8 @@ fn print_frame<O: Write, E: Write>(
     wanted: bool,
 ) -> Shown
     requires { length line.old ≡ 8448 }
-    ensures { Shows (device_of state.old store.old window.old destination.old) number frame.now line.old result state.new store.new window.new destination.new line.new }
+    ensures shows { Shows (device_of state.old store.old window.old destination.old) number frame.now line.old result state.new store.new window.new destination.new line.new }
+    ensures printed { IsTrue result.kept → (let d = device_of state.old store.old window.old destination.old in Appends (O.contents streams.old.output) (O.contents streams.new.output) (line_of number (letter_of frame.now) (frame_says d frame.now) (frame_delivers d frame.now))) }
 {
     let logged = entry::log_frame(number, frame, state, store, window, destination, line, 0);
     let size = logged.next;
@@ -59,7 +64,8 @@ fn print_frame<O: Write, E: Write>(
 // How a run went in which so many frames were read; an unreadable one may have ended it.
 fn summed(read: usize, carried: usize, early: bool, kept: usize) -> Printed
     requires { (carried ≤ read) × (read + 1 < 2 ^ 64) }
-    ensures { (result.carried ≡ carried) × (result.refused ≡ read - carried) × (result.early ≡ early) × (result.frames ≡ read + cond early 1 0) }
+    ensures run { (result.carried ≡ carried) × (result.refused ≡ read - carried) × (result.early ≡ early) × (result.frames ≡ read + cond early 1 0) }
+    ensures kept { result.kept ≡ kept }
 {
     Printed {
         frames: read + one_if(early),
@@ -81,7 +87,8 @@ pub(crate) fn print_log<O: Write, E: Write>(
     line: &mut [u8],
 ) -> Printed
     requires { length line.old ≡ 8448 }
-    ensures { Prints (device_of state.old store.old window.old destination.old) input.now result state.new store.new window.new destination.new }
+    ensures prints { Prints (device_of state.old store.old window.old destination.old) input.now result state.new store.new window.new destination.new }
+    ensures printed { result.kept ≡ result.frames → Appends (O.contents streams.old.output) (O.contents streams.new.output) (log_from 1 (entries (device_of state.old store.old window.old destination.old) input.now)) }
 {
     let mut at = 0;
     let mut number = 0;
