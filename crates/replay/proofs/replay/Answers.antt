@@ -25,8 +25,8 @@ returns-then-taken-eq0 c =
     let whole : take (length input - c.loop-at.at) frame ≡ frame = take_all (length input - c.loop-at.at) frame (omega (arith, length-drop c.loop-at.at input)) in
     let inside : c.loop-at.at < length (input) = c.loop-at-test.true in
     let logged : let after = c.log_frame-r.new in
-        Logs (d) (c.loop-at.number + 1) (frame) c.loop-at.output c.loop-at.written c.log_frame-r.result
-        after.state after.store after.window after.destination after.output = rw (whole) at c.log_frame-r.ensures in
+    Logs (d) (c.loop-at.number + 1) (frame) c.loop-at.output c.loop-at.written c.log_frame-r.result
+    after.state after.store after.window after.destination after.output = rw (whole) at c.log_frame-r.ensures in
     let L = logged in
     replays_unreadable (device) (input) _ _ _ _ _ (d) _ (running) (inside) _ _ L.line
     (none_unread (frame) L.taken (omega arith)) L.leaves
@@ -39,8 +39,8 @@ overflow_add-at c =
     let whole : take (length input - c.loop-at.at) frame ≡ frame = take_all (length input - c.loop-at.at) frame (omega (arith, length-drop c.loop-at.at input)) in
     let inside : c.loop-at.at < length (input) = c.loop-at-test.true in
     let logged : let after = c.log_frame-r.new in
-        Logs (d) (c.loop-at.number + 1) (frame) c.loop-at.output c.loop-at.written c.log_frame-r.result
-        after.state after.store after.window after.destination after.output = rw (whole) at c.log_frame-r.ensures in
+    Logs (d) (c.loop-at.number + 1) (frame) c.loop-at.output c.loop-at.written c.log_frame-r.result
+    after.state after.store after.window after.destination after.output = rw (whole) at c.log_frame-r.ensures in
     let read = some_read (frame) (logged).taken c.if-taken-eq0.false in
     let most : c.loop-at.at + c.log_frame-r.result.taken ≤ length (input)
     = omega (arith, (logged).taken, (taken_read (frame) read).there, length-drop c.loop-at.at (input), inside) in
@@ -56,8 +56,8 @@ loop-at-preserved c =
     let whole : take (length input - c.loop-at.at) frame ≡ frame = take_all (length input - c.loop-at.at) frame (omega (arith, length-drop c.loop-at.at input)) in
     let inside : c.loop-at.at < length (input) = c.loop-at-test.true in
     let logged : let after = c.log_frame-r.new in
-        Logs (d) (c.loop-at.number + 1) (frame) c.loop-at.output c.loop-at.written c.log_frame-r.result
-        after.state after.store after.window after.destination after.output = rw (whole) at c.log_frame-r.ensures in
+    Logs (d) (c.loop-at.number + 1) (frame) c.loop-at.output c.loop-at.written c.log_frame-r.result
+    after.state after.store after.window after.destination after.output = rw (whole) at c.log_frame-r.ensures in
     let L = logged in
     let read = some_read (frame) L.taken c.if-taken-eq0.false in
     let count = ap (λ (k : ℕ). c.loop-at.carried + k) (c.one_if-carried.ensures.0 ∙ ap (λ (b : Bool). cond b 1 0) L.accepted) in (
