@@ -1,7 +1,7 @@
 // Files by their names. The library takes a name as text, so that a file whose name is none cannot be opened. Whether there is such a file is
+// told all the same.
 ghost use Rattle.std.specs.Prelude.{◌≤◌, length};
 
-// told all the same.
 use std::io::Read;
 use std::rt::Files;
 use std::{fs, io, str};
