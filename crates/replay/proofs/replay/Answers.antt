@@ -46,6 +46,10 @@ overflow_add-at c =
     = omega (arith, (logged).taken, (taken_read (frame) read).there, length-drop c.loop-at.at (input), inside) in
     omega (arith, most)
 
+-- two truth values that are the same count for as much
+counts_alike : {a b : Bool} → a ≡ b → ◌≡◌ {A = ℕ} (cond a 1 0) (cond b 1 0)
+counts_alike e = ap (λ (b : Bool). cond b 1 0) e
+
 pub loop-at-preserved : goal.loop-at-preserved
 loop-at-preserved c =
     let device : Device = device_of c.args.state.now c.args.store.now c.args.window.now c.args.destination.now in
@@ -60,8 +64,8 @@ loop-at-preserved c =
     after.state after.store after.window after.destination after.output = rw (whole) at c.log_frame-r.ensures in
     let L = logged in
     let read = some_read (frame) L.taken c.if-taken-eq0.false in
-    let count = ap (λ (k : ℕ). c.loop-at.carried + k) (c.one_if-carried.ensures.0 ∙ ap (λ (b : Bool). cond b 1 0) L.accepted) in (
-      running_turn (device) (input) _ _ _ _ _ (d) _ (running) (inside) _ _ L.line read L.taken count L.leaves,
+    let one = counts_alike L.accepted in (
+      running_turn (device) (input) _ _ _ _ _ (d) _ (running) (inside) _ _ L.line read L.taken (cc one) L.leaves,
       omega arith,
       omega arith,
       omega arith,
