@@ -1,21 +1,20 @@
 -- What the half of fetch and of own write that reads and judges says: the checks that need no search, and then what the search of one
 -- command's records gives.
-use Rattle.std.specs.Prelude.{ℕ, ◌+◌, ◌≤◌, ◌<◌, ◌≡◌, [], drop}
+use Rattle.std.specs.Prelude.{ℕ, ◌+◌, ◌≤◌, ◌<◌, ◌≡◌, drop, Result, Ok, Err}
 use Rattle.state.specs.State.{CommandState, records_in}
 use Rattle.state.specs.declared.Meeting.{Meeting}
 use Rattle.state.specs.Join.{Join, join}
 use Rattle.state.specs.Limits.{record_limit, held_limit}
 use Rattle.state.specs.Records.{total}
-use Rattle.state.specs.Refusals.{number}
-use Rattle.state.specs.Verdict.{Reply, refused, replied}
-use Rattle.admission.specs.declared.admit.Admission.{Admission}
-use Rattle.admission.specs.declared.admit.Admission.TheVariants.{Admitted, Barred}
+use Rattle.state.specs.declared.refusal.Refusal.{Refusal}
+use Rattle.state.specs.declared.refusal.Refusal.TheVariants.{TooManyBytes, TooManyRecords}
+use Rattle.state.specs.Answers.{begin_reply}
+use Rattle.state.specs.Verdict.{Reply}
 use Rattle.admission.specs.declared.plan.Finding.{Finding}
-use Rattle.admission.specs.declared.plan.Finding.TheVariants.{Span, Bytes, Records}
 
-abbrev pub admission_reply : Admission → Reply
-admission_reply Admitted = replied []
-admission_reply (Barred r) = refused (number r)
+-- a call that is admitted has nothing to tell yet
+abbrev pub admission_reply : Result Unit Refusal → Reply
+admission_reply = begin_reply
 
 -- the bytes that are held behind the joined record, and all that would be held
 abbrev pub behind_of : CommandState → Join → ℕ
@@ -38,10 +37,12 @@ pub record TooMany (p : CommandState) (j : Join) : Type 0 where
   pub bytes : bytes_of p j ≤ held_limit
   pub many : record_limit < j.command.count
 
-abbrev pub PlansJoin : CommandState → Join → Finding → Type 0
-PlansJoin p j (Span m fresh place behind looked) = Plan p j m fresh place behind looked
-PlansJoin p j Bytes = held_limit < bytes_of p j
-PlansJoin p j Records = TooMany p j
+-- 23 and 24 are the only refusals, and each is given just where it applies
+abbrev pub PlansJoin : CommandState → Join → Result Finding Refusal → Type 0
+PlansJoin p j (Ok f) = Plan p j f.m f.fresh f.place f.behind f.looked
+PlansJoin p j (Err TooManyBytes) = held_limit < bytes_of p j
+PlansJoin p j (Err TooManyRecords) = TooMany p j
+PlansJoin p j (Err _) = ⊥
 
-abbrev pub Plans : CommandState → (a n : ℕ) → Finding → Type 0
+abbrev pub Plans : CommandState → (a n : ℕ) → Result Finding Refusal → Type 0
 Plans p a n r = PlansJoin p (join p a (a + n)) r

@@ -1,6 +1,5 @@
 // Whether a check that needs no search of the records bars the call. The state is read.
-ghost use Rattle.std.specs.Prelude.{◌≡◌, [], length};
-ghost use Rattle.state.specs.Limits.{state_words};
+ghost use Rattle.std.specs.Prelude.{◌≡◌, []};
 ghost use Rattle.state.specs.Words.{state_of};
 ghost use Rattle.state.specs.Verdict.{replied, verdict};
 ghost use Rattle.cache.specs.Fetch.{admit_checks};
@@ -9,47 +8,41 @@ ghost use Rattle.admission.specs.Plan.{admission_reply};
 use state::{CacheState, Refusal, range};
 use words::command::is_open;
 
-#[derive(Drop)]
-pub enum Admission {
-    Admitted,
-    Barred(Refusal),
-}
-
+#[tactic(auto, unfolding(state::specs::Verdict::verdict))]
 pub fn admit(
-    state: &[u16],
+    state: &[u16; CacheState::WORDS],
     store_len: usize,
     window_len: usize,
     room: usize,
     command: usize,
     address: usize,
     size: usize,
-) -> Admission
-    requires { length state.now ≡ state_words }
+) -> Result<(), Refusal>
     ensures { admission_reply result ≡ verdict (admit_checks (state_of state.now) store_len window_len room command address size) (replied []) }
 {
     if CacheState::TRANSFER < size {
-        return Admission::Barred(Refusal::LengthTooLong);
+        return Err(Refusal::LengthTooLong);
     }
     if CacheState::COMMANDS <= command {
-        return Admission::Barred(Refusal::CommandTooHigh);
+        return Err(Refusal::CommandTooHigh);
     }
     if CacheState::WINDOW < window_len {
-        return Admission::Barred(Refusal::WindowTooLong);
+        return Err(Refusal::WindowTooLong);
     }
     if store_len != CacheState::STORE {
-        return Admission::Barred(Refusal::StoreWrongSize);
+        return Err(Refusal::StoreWrongSize);
     }
     if range::outside(window_len, address, size) {
-        return Admission::Barred(Refusal::OutsideWindow);
+        return Err(Refusal::OutsideWindow);
     }
     if room < size {
-        return Admission::Barred(Refusal::BufferTooShort);
+        return Err(Refusal::BufferTooShort);
     }
     if !integrity::holds(state) {
-        return Admission::Barred(Refusal::StateBroken);
+        return Err(Refusal::StateBroken);
     }
     if !is_open(state, command) {
-        return Admission::Barred(Refusal::CommandNotOpen);
+        return Err(Refusal::CommandNotOpen);
     }
-    Admission::Admitted
+    Ok(())
 }

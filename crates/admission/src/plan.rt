@@ -6,47 +6,40 @@ ghost use Rattle.state.specs.Words.{command_in};
 ghost use Rattle.admission.specs.Plan.{Plans};
 
 use join::search::search;
-use state::{CacheState, Meeting};
+use state::{CacheState, Meeting, Refusal};
 use words::entries::{held_from, used};
 
-#[derive(Drop)]
-pub enum Finding {
-    // how the span meets the records, how many of its bytes are fresh, where its first byte will stand among the packed bytes, how many bytes
-    // are held behind it, and how many records the search looked at
-    Span {
-        m: Meeting,
-        fresh: usize,
-        place: usize,
-        behind: usize,
-        looked: usize,
-    },
-    Bytes,
-    Records,
+// How a span meets the records, how many of its bytes are fresh, where its first byte will stand among the packed bytes, how many bytes are held
+// behind it, and how many records the search looked at.
+#[derive(Clone, Copy)]
+pub struct Finding {
+    pub m: Meeting,
+    pub fresh: usize,
+    pub place: usize,
+    pub behind: usize,
+    pub looked: usize,
 }
 
-pub fn planned(words: &[u16], address: usize, size: usize) -> Finding
+pub fn planned(words: &[u16], address: usize, size: usize) -> Result<Finding, Refusal>
     requires { (length words.now ≡ command_words) × (command_holds (command_in words.now) ≡ true) × (0 < size) × (size ≤ transfer_limit) × (address + size ≤ window_limit) }
     ensures { Plans (command_in words.now) address size result }
 {
     let searched = search(words, address, address + size);
     let m = searched.met;
-    let wide = numbers::minus(m.high, m.low);
-    let fresh = numbers::minus(wide, m.held);
+    let fresh = m.high.saturating_sub(m.low).saturating_sub(m.held);
     let behind = held_from(words, m.last);
     if CacheState::HELD < m.below + m.held + behind + fresh {
-        return Finding::Bytes;
+        return Err(Refusal::TooManyBytes);
     }
-    let n = used(words);
-    if CacheState::RECORDS < m.first + 1 + numbers::minus(n, m.last) {
-        return Finding::Records;
+    if CacheState::RECORDS < m.first + 1 + used(words).saturating_sub(m.last) {
+        return Err(Refusal::TooManyRecords);
     }
-    let inside = numbers::minus(address, m.low);
-    let place = m.below + numbers::lesser(inside, CacheState::WINDOW);
-    Finding::Span {
+    let place = m.below + address.saturating_sub(m.low).min(CacheState::WINDOW);
+    Ok(Finding {
         m,
         fresh,
         place,
         behind,
         looked: searched.looked,
-    }
+    })
 }

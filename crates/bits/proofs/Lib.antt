@@ -1,3 +1,4 @@
+pub mod Joined
 pub mod Word
 pub mod Operations
 pub mod Counts

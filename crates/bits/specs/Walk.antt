@@ -1,5 +1,5 @@
 -- Runs counted by walking over the words: how far a walk has come, and what one does.
-use Rattle.std.specs.Prelude.{ℕ, ◌+◌, ◌-◌, ◌*◌, ◌/◌, ◌≤◌, ◌<◌, ◌≡◌, List, Bool, false, cond, ◌||◌, get_or}
+use Rattle.std.specs.Prelude.{ℕ, ◌+◌, ◌-◌, ◌*◌, ◌/◌, ◌≤◌, ◌<◌, ◌≡◌, List, Bool, false, cond, ◌||◌, get_or, bit_or}
 use Rattle.octets.specs.Lists.{count}
 use Rattle.state.specs.Records.{span, in_span}
 use Rattle.bits.specs.declared.walk.Walk.{Walk}
@@ -14,6 +14,10 @@ pub record Walked (test : ℕ → Bool) (w : Walk) (i : ℕ) : Type 0 where
 pub record Walking (w : Walk) (i : ℕ) : Type 0 where
   pub few : w.n ≤ 64 * i
   pub bit : w.carry ≤ 1
+
+-- words with the bits put to them that are given for each from word i up to word k
+abbrev pub BitsPut : (given : ℕ → ℕ → Type 0) (words : List ℕ) (i k : ℕ) (both : List ℕ) → Type 0
+BitsPut given words i k both = (j r : ℕ) → i ≤ j → j < k → given j r → get_or both j 0 ≡ bit_or (get_or words j 0) r
 
 -- A walk goes on from word i up to word k: of any test whose words these are, it has come to k where it had come to i.
 abbrev pub WalksOn : (words : List ℕ) (i k : ℕ) (w r : Walk) → Type 0

@@ -5,8 +5,6 @@ ghost use Rattle.octets.specs.Lists.{count};
 ghost use Rattle.state.specs.Records.{span, in_span};
 ghost use Rattle.bits.specs.Bits.{word_limit, map_limit, bit, word_of, starts_at};
 
-use numbers::minus;
-
 // How many bits of a word are set.
 pub fn tally(w: u64) -> usize
     ensures { (result ≡ ones w) × (result ≤ 64) }
@@ -18,11 +16,7 @@ pub fn tally(w: u64) -> usize
 fn first_bits(n: usize) -> u64
     ensures { result ≡ word_of (λ j. ltb j n) 64 }
 {
-    if n < 64 {
-        (1 << n) - 1
-    } else {
-        18446744073709551615
-    }
+    if n < 64 { (1 << n) - 1 } else { u64::MAX }
 }
 
 // The bits of word i that lie in the addresses from low up to high.
@@ -31,7 +25,7 @@ pub fn span_bits(i: usize, low: usize, high: usize) -> u64
     ensures { result ≡ word_of (λ j. in_span low (high - low) (64 * i + j)) 64 }
 {
     let base = 64 * i;
-    first_bits(minus(high, base)) - first_bits(minus(low, base))
+    first_bits(high.saturating_sub(base)) - first_bits(low.saturating_sub(base))
 }
 
 // At how many bits of a word a run starts, where `carry` is the bit below its lowest.

@@ -6,6 +6,12 @@ mod each;
 mod fill;
 mod walk;
 
+// How many addresses a map has.
+pub const ADDRESSES: usize = 4096;
+
+// How many words of 64 bits they take.
+pub const WORDS: usize = 64;
+
 pub use count::{count_span, ones};
-pub use fill::{all_zero, clear, set_span};
+pub use fill::{all_zero, set_span};
 pub use walk::{runs, runs_with};

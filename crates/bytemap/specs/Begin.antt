@@ -1,6 +1,6 @@
 -- Begin: the command is open, and the whole map is cleared (request F-2 of 02, the agreed changes; docs/RULES.md has its rules).
-use Rattle.std.specs.Prelude.{◌≡◌, List, [], ◌∷◌, cond}
-use Rattle.state.specs.declared.answer.BeginAnswer.{BeginAnswer}
+use Rattle.std.specs.Prelude.{◌≡◌, List, [], ◌∷◌, Result, cond}
+use Rattle.state.specs.declared.refusal.Refusal.{Refusal}
 use Rattle.state.specs.Answers.{begin_reply}
 use Rattle.state.specs.Verdict.{Reply, replied, accepted, Check, verdict}
 use Rattle.bytemap.specs.Map.{Map, cleared, map_broken, already_open}
@@ -18,6 +18,6 @@ unfoldable pub begin_map : Map → Map
 begin_map m = cond (accepted (begin_says m)) (cleared 1) m
 
 -- the call: its answer, and the map after it
-pub record Begins (m : Map) (r : BeginAnswer) (m' : Map) : Type 0 where
+pub record Begins (m : Map) (r : Result Unit Refusal) (m' : Map) : Type 0 where
   pub answer : begin_reply r ≡ begin_says m
   pub map : m' ≡ begin_map m

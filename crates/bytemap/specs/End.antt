@@ -1,6 +1,7 @@
 -- End: the command is closed, and the whole map is cleared (request F-2 of 02, the agreed changes; docs/RULES.md has its rules).
-use Rattle.std.specs.Prelude.{◌≡◌, List, [], ◌∷◌, cond, length}
-use Rattle.state.specs.declared.answer.EndAnswer.{EndAnswer}
+use Rattle.std.specs.Prelude.{◌≡◌, List, [], ◌∷◌, Result, cond, length}
+use Rattle.state.specs.declared.answer.EndCounts.{EndCounts}
+use Rattle.state.specs.declared.refusal.Refusal.{Refusal}
 use Rattle.state.specs.Answers.{end_reply}
 use Rattle.state.specs.Verdict.{Reply, replied, accepted, Check, verdict}
 use Rattle.bytemap.specs.Map.{Map, held_count, runs_of, cleared, map_broken, not_open}
@@ -18,6 +19,6 @@ unfoldable pub end_map : Map → Map
 end_map m = cond (accepted (end_says m)) (cleared 0) m
 
 -- the call: its answer, and the map after it
-pub record Ends (m : Map) (r : EndAnswer) (m' : Map) : Type 0 where
+pub record Ends (m : Map) (r : Result EndCounts Refusal) (m' : Map) : Type 0 where
   pub answer : end_reply r ≡ end_says m
   pub map : m' ≡ end_map m

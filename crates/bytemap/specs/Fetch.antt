@@ -1,5 +1,5 @@
 -- Fetch: the span goes to the destination, and its bytes are held (request F-2 of 02, the agreed changes; docs/RULES.md has its rules).
-use Rattle.std.specs.Prelude.{ℕ, ◌≡◌, List, [], ◌∷◌, map, Bool, not, cond, ◌||◌, ltb, length, get_or}
+use Rattle.std.specs.Prelude.{ℕ, ◌≡◌, List, [], ◌∷◌, Result, map, Bool, not, cond, ◌||◌, ltb, length, get_or}
 use Rattle.octets.specs.Lists.{count, overwrite}
 use Rattle.state.specs.declared.Record.{Record}
 use Rattle.state.specs.declared.refusal.Refusal.TheVariants.{TooManyRecords}
@@ -7,7 +7,8 @@ use Rattle.state.specs.Limits.{record_limit}
 use Rattle.state.specs.Records.{in_span, span}
 use Rattle.state.specs.Refusals.{number}
 use Rattle.state.specs.Runs.{runs_from}
-use Rattle.state.specs.declared.answer.MapFetchAnswer.{MapFetchAnswer}
+use Rattle.state.specs.declared.answer.MapFetchCounts.{MapFetchCounts}
+use Rattle.state.specs.declared.refusal.Refusal.{Refusal}
 use Rattle.state.specs.Answers.{map_fetch_reply}
 use Rattle.state.specs.Verdict.{Reply, replied, accepted, Check, ◌⇒◌, verdict}
 use Rattle.state.specs.Checks.{length_too_long, outside_window, buffer_too_short}
@@ -68,7 +69,7 @@ module _ (m : Map) (window dest : List ℕ) (a n : ℕ) where
   fetch_dest = cond (accepted (fetch_says m (length window) (length dest) a n)) (overwrite dest 0 (seen m window a n)) dest
 
 -- the call: its answer, the map and the destination after it; the window is lent to be read, and stays
-pub record Fetches (m : Map) (window dest : List ℕ) (a n : ℕ) (r : MapFetchAnswer) (m' : Map) (dest' : List ℕ) : Type 0 where
+pub record Fetches (m : Map) (window dest : List ℕ) (a n : ℕ) (r : Result MapFetchCounts Refusal) (m' : Map) (dest' : List ℕ) : Type 0 where
   pub answer : map_fetch_reply r ≡ fetch_says m (length window) (length dest) a n
   pub map : m' ≡ fetch_map m window dest a n
   pub delivered : dest' ≡ fetch_dest m window dest a n

@@ -1,8 +1,9 @@
 -- Own write: bytes go into the window, and the command holds them as if it had fetched them there (requests F-2 and F-3 of 02, the agreed changes;
 -- docs/RULES.md has their rules).
-use Rattle.std.specs.Prelude.{ℕ, ◌≡◌, List, [], ◌∷◌, Bool, cond, length}
+use Rattle.std.specs.Prelude.{ℕ, ◌≡◌, List, [], ◌∷◌, Result, Bool, cond, length}
 use Rattle.octets.specs.Lists.{overwrite}
-use Rattle.state.specs.declared.answer.OwnWriteAnswer.{OwnWriteAnswer}
+use Rattle.state.specs.declared.answer.OwnWriteCounts.{OwnWriteCounts}
+use Rattle.state.specs.declared.refusal.Refusal.{Refusal}
 use Rattle.state.specs.Answers.{own_write_reply}
 use Rattle.state.specs.Verdict.{Reply, replied, accepted, Check, verdict}
 use Rattle.state.specs.Checks.{length_too_long, outside_window}
@@ -32,7 +33,7 @@ module _ (m : Map) (window : List ℕ) (a : ℕ) (bytes : List ℕ) where
   own_window = cond own_taken (overwrite window a bytes) window
 
 -- the call: its answer, the map and the window after it
-pub record OwnWrites (m : Map) (window : List ℕ) (a : ℕ) (bytes : List ℕ) (r : OwnWriteAnswer) (m' : Map) (window' : List ℕ) : Type 0 where
+pub record OwnWrites (m : Map) (window : List ℕ) (a : ℕ) (bytes : List ℕ) (r : Result OwnWriteCounts Refusal) (m' : Map) (window' : List ℕ) : Type 0 where
   pub answer : own_write_reply r ≡ own_says m (length window) a (length bytes)
   pub map : m' ≡ own_map m window a bytes
   pub host : window' ≡ own_window m window a bytes

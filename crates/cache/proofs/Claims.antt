@@ -6,7 +6,7 @@ use mathlib.Core.Path.{◌≡◌, refl, ap, ap₂, sym, ◌∙◌}
 use mathlib.Core.List.{List, [], ◌∷◌, map}
 use mathlib.Core.Bool.{true, false}
 use lib.ListN.{length, get_or, replicate, length-replicate}
-use borrow.Author.Tests.{leb-true, leb-false, lt-leb}
+use borrow.Author.Tests.{lt-leb, le-leb}
 use Rattle.octets.specs.Lists.{part}
 use Rattle.octets.proofs.Overwrite.{overwrite_part}
 use Rattle.state.specs.declared.Record.{Record}
@@ -28,7 +28,6 @@ use Rattle.cache.specs.Show.{past_last, show_says}
 use Rattle.cache.specs.Runs.{fetch, says}
 use Rattle.cache.specs.Claims.{record_reply, ShowsAll, CommandsEmptied, PartsZeroed, WrittenHeld, WindowWritten, OwnAsFetched, FetchLooks}
 use Rattle.cache.proofs.Accepted.{Ready, begun, ended, fetched, fetched_reply, own_judged, own_fetched}
-use Rattle.cache.proofs.Tests.{never_true, never_false}
 
 -- what is made of a list's numbers and of its records is the same list, if it is the same at each number
 each_record :
@@ -44,13 +43,13 @@ module _ (s : State) (c : ℕ) (whole : holds s ≡ true) (low : c < command_lim
   record_given : (i : ℕ) → i < length (records_of s c) → show_says s c i ≡ record_reply (get_or (records_of s c) i no_record)
   unfolding show_says verdict
   record_given i h =
-      let there = never_true (past_last s c i).applies (λ e. omega (arith, leb-true)) in
+      let there : (past_last s c i).applies ≡ false = lt-leb (length (records_of s c)) i h in
       rw (lt-leb command_limit c low, whole, opened, there)
 
   none_behind : (i : ℕ) → length (records_of s c) ≤ i → show_says s c i ≡ refused 25
   unfolding show_says verdict
   none_behind i h =
-      let past = never_false (past_last s c i).applies (λ e. omega (arith, leb-false)) in
+      let past : (past_last s c i).applies ≡ true = le-leb (length (records_of s c)) i h in
       rw (lt-leb command_limit c low, whole, opened, past)
 
 pub shows_all : ShowsAll

@@ -4,3 +4,4 @@
 
 pub mod begin;
 pub mod end;
+mod judge;

@@ -11,6 +11,7 @@ use std::rt::{Env, Files};
 // The most bytes of a file name.
 const NAME: usize = 4095;
 
+// Three things that a program may do next, of which none is an error; an option of one of two inputs would be no plainer.
 #[derive(Drop)]
 pub enum Asked<F> {
     // to read standard input
@@ -33,10 +34,7 @@ pub fn is<R: Env>(rt: &R, i: usize, word: &[u8]) -> bool {
 // Is there an argument i?
 fn is_given<R: Env>(rt: &R, i: usize) -> bool {
     let mut text = [0u8; 1];
-    match rt.arg(i, &mut text) {
-        Err(FillError::NotPresent) => false,
-        _ => true,
-    }
+    !matches!(rt.arg(i, &mut text), Err(FillError::NotPresent))
 }
 
 // Argument i and those behind it: a file name, or one of the two words that every program knows.
@@ -111,10 +109,7 @@ fn input<R: Files, E: Write>(
 }
 
 fn is_option(name: &[u8]) -> bool {
-    if name.len() == 0 {
-        return false;
-    }
-    name[0] == b'-'
+    name.starts_with(b"-")
 }
 
 fn say_wrong<E: Write>(errors: &mut E, program: &[u8], what: &[u8], name: &[u8]) {

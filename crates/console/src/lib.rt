@@ -7,5 +7,5 @@ mod naming;
 mod saying;
 
 pub use asking::{Asked, arguments, is};
-pub use input::{Reading, read_whole};
-pub use saying::{NOTE, Streams, say, say_text, tell, tell_if, within};
+pub use input::{Unread, read_whole};
+pub use saying::{NOTE, Streams, say, say_if_text, say_text, tell, tell_if, within};

@@ -1,9 +1,9 @@
 // What a program says: on standard error, but for what it was asked to tell.
-ghost use Rattle.std.specs.Prelude.{◌≡◌, min, length, take, IsTrue};
+ghost use Rattle.std.specs.Prelude.{◌≡◌, false, min, length, take, IsTrue};
+ghost use Rattle.textlike.specs.Texts.{looks_like_text};
 ghost use Rattle.std.specs.Io.KnownBytes.{Appends};
 ghost use Rattle.console.specs.Counts.{IsPrefixLen};
 
-use numbers::lesser;
 use octets::put;
 use std::fmt::InlineText;
 use std::io;
@@ -27,11 +27,20 @@ pub fn within(text: &[u8], n: usize) -> usize
     ensures prefix_len { IsPrefixLen result text.now }
     ensures value { result ≡ min n (length text.now) }
 {
-    lesser(n, text.len())
+    n.min(text.len())
 }
 
 pub fn say_text<E: Write>(errors: &mut E, text: &[u8]) {
     let _ = errors.write_all(text);
+}
+
+// A hint, where an input that should be frames looks like text.
+pub fn say_if_text<E: Write>(errors: &mut E, input: &[u8], hint: &[u8])
+    ensures { looks_like_text input.now ≡ false → errors.new ≡ errors.old }
+{
+    if textlike::looks_like_text(input) {
+        say_text(errors, hint);
+    }
 }
 
 // The first n bytes of a message.

@@ -5,6 +5,7 @@ use mathlib.Core.Path.{◌≡◌, refl, ap, ap₂, sym, ◌∙◌}
 use mathlib.Core.List.{List, ◌∷◌}
 use mathlib.Core.Bool.{true, false}
 use lib.ListN.{drop, get_or}
+use Rattle.std.specs.Prelude.{Err}
 use Rattle.state.specs.declared.refusal.Refusal.{Refusal}
 use Rattle.state.specs.Refusals.{number}
 use Rattle.state.specs.Verdict.{Reply, refused, replied, accepted, numbers_of}
@@ -13,7 +14,6 @@ use Rattle.frames.specs.declared.Step.TheVariants.{Begin, Fetch, End, HostWrite,
 use Rattle.kinds.specs.Table.{kind_of}
 use Rattle.frames.specs.Read.{step_numbers, read_says, data_of}
 use Rattle.cache.specs.Runs.{Call, says, delivers}
-use Rattle.loglines.specs.declared.line.Answer.TheVariants.{Refused}
 use Rattle.device.specs.declared.Made.{Made}
 use Rattle.device.specs.Step.{Device, device_of, call_of, device_after, Makes}
 use Rattle.device.specs.Frame.{step_of, is_readable, taken_up, step_read, frame_call, frame_says, frame_leaves, frame_delivers, Carries}
@@ -33,7 +33,7 @@ module _ (words store window dest frame : List ℕ) (why : Refusal) (is : read_s
   unread = ap accepted is
 
   pub carries_unreadable :
-      Carries (device_of words store window dest) frame (record { taken = 0; letter = 63; answer = Refused why; delivered = 0 }) words store window dest
+      Carries (device_of words store window dest) frame (record { taken = 0; letter = 63; answer = Err why; delivered = 0 }) words store window dest
   unfolding frame_says frame_leaves frame_delivers
   carries_unreadable = record {
     taken = sym (ap (λ (r : Reply). get_or (numbers_of r) 0 0) is);

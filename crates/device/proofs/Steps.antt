@@ -1,17 +1,15 @@
 -- A call made, put together from what its parts give.
 use Prim.Native.Nat.{ℕ, ◌≤◌}
 use native.Mathlib.Omega.{arith}
-use mathlib.Core.Path.{◌≡◌, refl, ap, sym, ◌∙◌}
+use mathlib.Core.Path.{◌≡◌, refl, ap, ◌∙◌}
 use mathlib.Core.List.{List, []}
 use mathlib.Core.Bool.{Bool, true, false, cond}
 use lib.ListN.{length, take}
 use Rattle.state.specs.State.{State}
 use Rattle.state.specs.Verdict.{accepted}
 use Rattle.cache.proofs.Accepted.{fetched}
-use Rattle.cache.specs.Runs.{Call, fetch, Machine, says, wanted, dest_after, delivers}
-use Rattle.loglines.specs.declared.line.Answer.{Answer}
-use Rattle.loglines.specs.Line.{answer_reply}
-use Rattle.device.specs.Step.{Device, device_of, device_after, Makes}
+use Rattle.cache.specs.Runs.{fetch, Machine, says, dest_after, delivers}
+use Rattle.device.specs.Step.{Device}
 
 -- devices of equal parts are equal
 pub equal_devices :
@@ -19,23 +17,6 @@ pub equal_devices :
     → ◌≡◌ {A = Device} (record { machine = record { state = state; store = store }; window = window; dest = dest })
     (record { machine = record { state = state'; store = store' }; window = window'; dest = dest' })
 equal_devices s m w d = λ i. record { machine = record { state = s i; store = m i }; window = w i; dest = d i }
-
-none_delivered : (b : Bool) (dest : List ℕ) → cond b (take 0 dest) [] ≡ []
-none_delivered true dest = refl
-none_delivered false dest = refl
-
--- a call that asks for no bytes delivers none
-pub makes_undelivered :
-    (d : Device) (p : Call) {answer : Answer} {words' store' window' dest' : List ℕ} → wanted p ≡ 0 → answer_reply answer ≡ says d.machine p
-    → device_of words' store' window' dest' ≡ device_after d p → Makes d p (record { answer = answer; delivered = 0 }) words' store' window' dest'
-makes_undelivered d p none says_is left = record {
-  answer = says_is;
-  leaves = left;
-  within = omega arith;
-  delivered =
-      let m = d.machine in
-      sym (ap (λ (j : ℕ). cond (accepted (says m p)) (take j (dest_after m p)) []) none ∙ none_delivered (accepted (says m p)) (dest_after m p));
-}
 
 -- a fetch delivers the bytes that it asks for, or is refused
 module _ (m : Machine) (c a n : ℕ) (dest window dest' : List ℕ) (k : ℕ) (count : k ≡ cond (accepted (says m (fetch c a n dest window))) n 0) where

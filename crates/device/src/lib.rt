@@ -2,7 +2,8 @@
 // proofs of what is claimed of them in proofs/, and here what the code that makes them hands back. That code is in `execution`.
 #![tactic(auto)]
 
-use loglines::Answer;
+use loglines::Numbers;
+use state::Refusal;
 
 // How many bytes the frame took up (none if it is unreadable), its letter, the answer, and how many bytes were delivered to the front
 // of the destination.
@@ -10,13 +11,13 @@ use loglines::Answer;
 pub struct Carried {
     pub taken: usize,
     pub letter: u8,
-    pub answer: Answer,
+    pub answer: Result<Numbers, Refusal>,
     pub delivered: usize,
 }
 
 // The answer, and how many bytes were delivered to the front of the destination.
 #[derive(Clone, Copy)]
 pub struct Made {
-    pub answer: Answer,
+    pub answer: Result<Numbers, Refusal>,
     pub delivered: usize,
 }

@@ -15,8 +15,7 @@ use state::CacheState;
 pub extern "C" fn doorclover_fresh(state: &mut [u16; CacheState::WORDS])
     ensures { state_of state.new ≡ fresh_state }
 {
-    let fresh = CacheState::fresh();
-    let words = fresh.words;
+    let words = CacheState::fresh().words;
     *state = words;
 }
 

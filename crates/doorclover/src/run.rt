@@ -1,5 +1,4 @@
 // A journal of frames, run from the fresh state.
-ghost use Rattle.std.specs.Prelude.{◌≡◌, cond};
 ghost use Rattle.doorclover.specs.Journal.{Replays};
 
 use state::CacheState;
@@ -13,12 +12,6 @@ pub struct Replayed {
     pub carried: usize,
     pub refused: usize,
     pub early: u32,
-}
-
-fn one_if(test: bool) -> u32
-    ensures { result ≡ cond test 1 0 }
-{
-    if test { 1 } else { 0 }
 }
 
 #[unsafe(no_mangle)]
@@ -37,6 +30,6 @@ pub extern "C" fn doorclover_journal_replay(
         written: r.written,
         carried: r.carried,
         refused: r.refused,
-        early: one_if(r.early),
+        early: u32::from(r.early),
     }
 }

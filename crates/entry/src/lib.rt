@@ -29,19 +29,17 @@ pub fn log_frame(
     ensures { Logs (device_of state.old store.old window.old destination.old) number frame.now output.old at result state.new store.new window.new destination.new output.new }
 {
     let carried = carry_out(frame, state, store, window, destination);
-    let answer = carried.answer;
-    let delivered = carried.delivered;
     let next = loglines::put_line(
         output,
         at,
         number,
         carried.letter,
-        answer,
-        &destination[..delivered],
+        carried.answer,
+        &destination[..carried.delivered],
     );
     Logged {
         taken: carried.taken,
-        accepted: loglines::is_accepted(answer),
+        accepted: carried.answer.is_ok(),
         next,
     }
 }

@@ -7,8 +7,8 @@ ghost use Rattle.device.specs.Frame.{Carries};
 
 use crate::step::make;
 use device::Carried;
-use frames::{ReadAnswer, Step};
-use loglines::Answer;
+use frames::Step;
+use kinds::Kind;
 use state::CacheState;
 
 // The letter of an unreadable frame.
@@ -18,11 +18,11 @@ fn letter(step: Step) -> u8
     ensures { result ≡ (kind_of (get_or (step_numbers step) 0 0)).letter }
 {
     match step {
-        Step::Begin { .. } => kinds::letter(0),
-        Step::Fetch { .. } => kinds::letter(1),
-        Step::End { .. } => kinds::letter(2),
-        Step::HostWrite { .. } => kinds::letter(3),
-        Step::OwnWrite { .. } => kinds::letter(4),
+        Step::Begin { .. } => Kind::Begin.letter(),
+        Step::Fetch { .. } => Kind::Fetch.letter(),
+        Step::End { .. } => Kind::End.letter(),
+        Step::HostWrite { .. } => Kind::HostWrite.letter(),
+        Step::OwnWrite { .. } => Kind::OwnWrite.letter(),
     }
 }
 
@@ -35,26 +35,22 @@ pub fn carry_out(
 ) -> Carried
     ensures { Carries (device_of state.old store.old window.old destination.old) frame.now result state.new store.new window.new destination.new }
 {
-    let reading = frames::read(frame);
-    match reading {
-        ReadAnswer::Refused(why) => Carried {
-            taken: 0,
-            letter: UNREADABLE,
-            answer: Answer::Refused(why),
-            delivered: 0,
-        },
-        ReadAnswer::Step(parsed) => {
-            let consumed = parsed.consumed;
-            let step = parsed.step;
-            let bytes = frames::data(frame, consumed);
-            let made = make(step, bytes, state, store, window, destination);
-            let answer = made.answer;
+    match frames::read(frame) {
+        Ok(parsed) => {
+            let bytes = frames::data(frame, parsed.consumed);
+            let made = make(parsed.step, bytes, state, store, window, destination);
             Carried {
-                taken: consumed,
-                letter: letter(step),
-                answer,
+                taken: parsed.consumed,
+                letter: letter(parsed.step),
+                answer: made.answer,
                 delivered: made.delivered,
             }
         }
+        Err(why) => Carried {
+            taken: 0,
+            letter: UNREADABLE,
+            answer: Err(why),
+            delivered: 0,
+        },
     }
 }

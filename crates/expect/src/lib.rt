@@ -3,9 +3,8 @@
 
 ghost use Rattle.std.specs.Prelude.{◌≡◌, [], ◌+◌, ◌≤◌, ltb, eqb, length, drop, get_or};
 ghost use Rattle.scan.specs.Scan.{front};
-ghost use Rattle.expect.specs.Expect.{expected, words_of, lower, same, is_verdict, delivers, meets};
+ghost use Rattle.expect.specs.Expect.{expected, words_of, same, is_verdict, delivers, meets};
 
-use numbers::lesser;
 use scan::{Stop, has_word, until};
 
 // A part of a line: its first place, and the one behind its last.
@@ -22,7 +21,7 @@ pub fn expected(line: &[u8]) -> Span
     let end = until(line, 0, Stop::Comment);
     let cut = until(&line[..end], 0, Stop::Equals);
     Span {
-        start: lesser(cut + 1, end),
+        start: (cut + 1).min(end),
         end,
     }
 }
@@ -33,10 +32,8 @@ fn behind(text: &[u8], n: usize) -> usize
     ensures rest { words_of (drop result text.now) ≡ drop n (words_of text.now) }
 {
     let mut at = 0;
-    let mut i = 0;
-    while i < n {
+    for _ in 0..n {
         at = until(text, until(text, at, Stop::Word), Stop::Blank);
-        i += 1;
     }
     at
 }
@@ -52,10 +49,7 @@ fn has_more(text: &[u8], n: usize) -> bool
 fn is_last(text: &[u8], n: usize) -> bool
     ensures { result ≡ eqb (length (words_of text.now)) (n + 1) }
 {
-    if !has_more(text, n) {
-        return false;
-    }
-    !has_more(text, n + 1)
+    has_more(text, n) && !has_more(text, n + 1)
 }
 
 // The word of a number, counted from 0, and no bytes if there is none.
@@ -67,49 +61,25 @@ fn word(text: &[u8], n: usize) -> &[u8]
     &text[from..to]
 }
 
-// A capital letter is taken for the small one.
-fn lower(byte: u8) -> u8
-    ensures { result ≡ lower byte }
-{
-    if byte < b'A' {
-        return byte;
-    }
-    if byte > b'Z' {
-        return byte;
-    }
-    byte + 32
-}
-
 // Are two words the same, whatever the case of their letters?
 fn same(one: &[u8], other: &[u8]) -> bool
     ensures { result ≡ same one.now other.now }
 {
-    if one.len() != other.len() {
-        return false;
-    }
-    let mut i = 0;
-    while i < one.len() {
-        if lower(one[i]) != lower(other[i]) {
-            return false;
-        }
-        i += 1;
-    }
-    true
+    one.eq_ignore_ascii_case(other)
 }
 
+#[tactic(auto, unfolding(crate::specs::Expect::is_verdict))]
 fn is_verdict(word: &[u8]) -> bool
     ensures { result ≡ is_verdict word.now }
 {
-    if same(word, b"ok") {
-        return true;
-    }
-    same(word, b"no")
+    same(word, b"ok") || same(word, b"no")
 }
 
 // Are the words of the one the first words of the other?
 fn begins(expected: &[u8], answer: &[u8]) -> bool
     ensures { result ≡ front same (words_of expected.now) (words_of answer.now) }
 {
+    // How many words there are is known once they have been passed, so a `for` would be no plainer.
     let mut i = 0;
     while has_more(expected, i) {
         if !has_more(answer, i) {
@@ -124,19 +94,15 @@ fn begins(expected: &[u8], answer: &[u8]) -> bool
 }
 
 // Is it the answer to a fetch, and delivers these bytes?
+#[tactic(auto, unfolding(crate::specs::Expect::delivers))]
 fn delivers(bytes: &[u8], answer: &[u8]) -> bool
     ensures { result ≡ delivers bytes.now (words_of answer.now) }
 {
-    if !is_last(answer, 3) {
-        return false;
-    }
-    if !same(word(answer, 0), b"ok") {
-        return false;
-    }
-    same(word(answer, 3), bytes)
+    is_last(answer, 3) && same(word(answer, 0), b"ok") && same(word(answer, 3), bytes)
 }
 
 // Does an answer, as the log prints it behind the letter, meet an expectation?
+#[tactic(auto, unfolding(crate::specs::Expect::meets_words))]
 pub fn meets(expected: &[u8], answer: &[u8]) -> bool
     ensures { result ≡ meets expected.now answer.now }
 {
@@ -144,8 +110,5 @@ pub fn meets(expected: &[u8], answer: &[u8]) -> bool
     if is_verdict(first) {
         return begins(expected, answer);
     }
-    if !is_last(expected, 0) {
-        return false;
-    }
-    delivers(first, answer)
+    is_last(expected, 0) && delivers(first, answer)
 }

@@ -2,40 +2,38 @@
 ghost use Rattle.std.specs.Prelude.{◌≤◌, length};
 
 use crate::unit::put_trimmed;
-use numbers::lesser;
 use octets::put;
 use scan::Stop;
 use std::io::Write;
-
-#[derive(Clone, Copy)]
-pub(crate) enum Met {
-    NothingExpected,
-    Held,
-    Failed,
-}
 
 // Where in a line of the log the answer begins: behind the number, which has at most 20 digits, the letter, and a blank each.
 fn answer_start(logged: &[u8]) -> usize
     ensures { result ≤ length logged.now }
 {
-    let blank = lesser(scan::until(logged, 0, Stop::Blank), 20);
-    lesser(blank + 3, logged.len())
+    let blank = scan::until(logged, 0, Stop::Blank).min(20);
+    (blank + 3).min(logged.len())
 }
 
-// The line of the log is given without its newline. A failed expectation is reported.
-pub(crate) fn check<E: Write>(errors: &mut E, number: usize, step: &[u8], logged: &[u8]) -> Met {
+// Whether the expectation of a step held, if there is one. The line of the log is given without its newline. A failed expectation is
+// reported.
+pub(crate) fn check<E: Write>(
+    errors: &mut E,
+    number: usize,
+    step: &[u8],
+    logged: &[u8],
+) -> Option<bool> {
     let span = expect::expected(step);
-    let end = lesser(span.end, step.len());
-    let start = lesser(span.start, end);
+    let end = span.end.min(step.len());
+    let start = span.start.min(end);
     if start == end {
-        return Met::NothingExpected;
+        return None;
     }
     let from = answer_start(logged);
-    if expect::meets(&step[start..end], &logged[from..]) {
-        return Met::Held;
+    let held = expect::meets(&step[start..end], &logged[from..]);
+    if !held {
+        say_failed(errors, number, &step[start..end], &logged[from..]);
     }
-    say_failed(errors, number, &step[start..end], &logged[from..]);
-    Met::Failed
+    Some(held)
 }
 
 fn say_failed<E: Write>(errors: &mut E, number: usize, expected: &[u8], answer: &[u8]) {

@@ -2,10 +2,9 @@
 #![tactic(auto)]
 
 use console::{Asked, Streams};
-use numbers::{minus, one_if};
 use octets::put;
 use run::Tally;
-use script::Judgement;
+use script::TooLong;
 use std::io::{Read, Write};
 use std::rt::{Env, Files};
 
@@ -19,7 +18,7 @@ fn main(rt: HostRuntime) {
         errors: rt.stderr(),
     };
     let frames = console::is(&rt, 1, b"--frames");
-    match ask(&rt, &mut streams, 1 + one_if(frames)) {
+    match ask(&rt, &mut streams, 1 + usize::from(frames)) {
         Asked::Input => read(&mut streams, rt.stdin(), frames),
         Asked::File(file) => read(&mut streams, file, frames),
         Asked::Done => {}
@@ -69,9 +68,7 @@ fn read<R: Read + Drop, O: Write, E: Write>(
     frames: bool,
 ) {
     let mut input = script::room();
-    let reading = console::read_whole(&mut streams.errors, b"explain", &mut from, &mut input);
-    if reading.whole {
-        let n = reading.count;
+    if let Ok(n) = console::read_whole(&mut streams.errors, b"explain", &mut from, &mut input) {
         run_all(streams, &input[..n], frames);
     }
 }
@@ -84,65 +81,52 @@ fn run_all<O: Write, E: Write>(streams: &mut Streams<O, E>, input: &[u8], frames
     }
 }
 
+// Steps that are given for frames.
+const STEPS: &[u8] = b"explain: the input looks like steps; leave --frames out\n";
+
 fn run_frames<O: Write, E: Write>(streams: &mut Streams<O, E>, input: &[u8]) {
     if input.len() > journal::MOST {
-        say_if_text(&mut streams.errors, input);
+        console::say_if_text(&mut streams.errors, input, STEPS);
         console::say_text(
             &mut streams.errors,
             b"explain: the input is above 32768 bytes, nothing is run\n",
         );
         return;
     }
-    let tally = run::explain(streams, false, input);
+    let tally = run::explain_frames(streams, input);
     if tally.early {
-        say_if_text(&mut streams.errors, input);
+        console::say_if_text(&mut streams.errors, input, STEPS);
     }
     sum_up(&mut streams.errors, tally);
 }
 
-// Steps that are given for frames.
-fn say_if_text<E: Write>(errors: &mut E, input: &[u8]) {
-    if textlike::looks_like_text(input) {
-        console::say_text(
-            errors,
-            b"explain: the input looks like steps; leave --frames out\n",
-        );
-    }
-}
-
 fn run_steps<O: Write, E: Write>(streams: &mut Streams<O, E>, input: &[u8]) {
     match script::judge(&mut streams.errors, b"explain", input) {
-        Judgement::TooLong => {
-            console::say_text(
-                &mut streams.errors,
-                b"explain: the input is above 1048576 bytes, nothing is run\n",
-            )
-        }
-        Judgement::Lines(judged) => {
-            if 0 < judged.bad {
-                say_bad(&mut streams.errors, input, judged.bad);
-            } else {
-                let tally = run::explain(streams, true, input);
-                sum_up(&mut streams.errors, tally);
-            }
+        Err(TooLong) => console::say_text(
+            &mut streams.errors,
+            b"explain: the input is above 1048576 bytes, nothing is run\n",
+        ),
+        Ok(judged) if 0 < judged.bad => reporting::say_bad(
+            &mut streams.errors,
+            b"explain",
+            input,
+            judged.bad,
+            b"explain: the input looks like frames; give --frames\n",
+            b", nothing is run\n",
+        ),
+        Ok(_) => {
+            let tally = run::explain_steps(streams, input);
+            sum_up(&mut streams.errors, tally);
         }
     }
-}
-
-fn say_bad<E: Write>(errors: &mut E, input: &[u8], bad: usize) {
-    reporting::say_bad(
-        errors,
-        b"explain",
-        input,
-        bad,
-        b"explain: the input looks like frames; give --frames\n",
-        b", nothing is run\n",
-    );
 }
 
 // The frames that a call refused.
 fn refused(tally: Tally) -> usize {
-    minus(minus(tally.frames, tally.carried), one_if(tally.early))
+    tally
+        .frames
+        .saturating_sub(tally.carried)
+        .saturating_sub(usize::from(tally.early))
 }
 
 // The last line on standard error.

@@ -1,14 +1,12 @@
 // A run of frames or of steps, with a line of words for each frame.
-ghost use Rattle.std.specs.Prelude.{◌≤◌, ◌<◌, length};
-
-use crate::checking::{Met, check};
-use crate::unit::{Unit, line_end, next_frame, next_line};
+use crate::checking::check;
+use crate::unit::{begin_frame, begin_step};
 use console::Streams;
-use numbers::{greater, lesser, minus, one_if};
+use device::Carried;
 use octets::put;
+use script::Lines;
 use state::CacheState;
 use std::io::Write;
-use wording::put_words;
 
 // The window of the log program.
 const WINDOW: usize = 16384;
@@ -29,259 +27,151 @@ pub(crate) struct Tally {
     pub failed: usize,
 }
 
-// The line ends at a place, and is written if it is wanted. Tells whether it was.
-fn write<O: Write, E: Write>(
-    streams: &mut Streams<O, E>,
-    line: &mut [u8],
-    at: usize,
-    wanted: bool,
-) -> bool {
-    let next = put(line, at, b"\n");
-    console::tell_if(streams, wanted, b"explain", line, next)
+// A run: the device, the buffer of a line, and what came of the frames so far.
+#[derive(Drop)]
+struct Run {
+    state: CacheState,
+    store: [u8; CacheState::STORE],
+    window: [u8; WINDOW],
+    destination: [u8; CacheState::TRANSFER],
+    line: [u8; LINE],
+    tally: Tally,
 }
 
-// What is left of the input, as a frame or as a line of steps.
-fn next_unit(
-    by_lines: bool,
-    number: usize,
-    place: usize,
-    rest: &[u8],
-    buffer: &mut [u8],
-    frame: &mut [u8],
-    line: &mut [u8],
-) -> Unit {
-    if by_lines {
-        let end = line_end(rest);
-        return next_line(number, place, &rest[..end], buffer, frame, line);
-    }
-    next_frame(number, rest, frame, line)
-}
-
-// What the line of steps expects of the frame.
-fn met<E: Write>(
-    errors: &mut E,
-    by_lines: bool,
-    place: usize,
-    rest: &[u8],
-    logged: &[u8],
-    size: usize,
-) -> Met {
-    if !by_lines {
-        return Met::NothingExpected;
-    }
-    let end = line_end(rest);
-    let n = console::within(logged, minus(size, 1));
-    check(errors, place, &rest[..end], &logged[..n])
-}
-
-// How many bytes a unit has: a line with its newline, or the frame that was taken.
-fn unit_size(by_lines: bool, rest: &[u8], taken: usize) -> usize {
-    if !by_lines {
-        return taken;
-    }
-    let end = line_end(rest);
-    if end < rest.len() {
-        end + 1
-    } else {
-        rest.len()
-    }
-}
-
-// Where the next unit begins.
-fn behind(by_lines: bool, input: &[u8], at: usize, taken: usize) -> usize
-    requires { at < length input.now }
-    ensures { (at < result) × (result ≤ length input.now) }
-{
-    let size = unit_size(by_lines, &input[at..], taken);
-    at + lesser(greater(1, size), input.len() - at)
-}
-
-// An input has fewer lines and frames than this.
-const MANY: usize = 10000000;
-
-// One more if the test holds. It stops at a number that no input comes to, so that no sum overflows.
+// One more if the test holds.
 fn count(n: usize, test: bool) -> usize {
-    if n < MANY {
-        return n + one_if(test);
+    n.saturating_add(usize::from(test))
+}
+
+impl Run {
+    fn fresh() -> Run {
+        Run {
+            state: CacheState::fresh(),
+            store: [0u8; CacheState::STORE],
+            window: [0u8; WINDOW],
+            destination: [0u8; CacheState::TRANSFER],
+            line: [0u8; LINE],
+            tally: Tally {
+                frames: 0,
+                carried: 0,
+                early: false,
+                kept: 0,
+                held: 0,
+                failed: 0,
+            },
+        }
     }
-    n
-}
 
-// What came of a unit: whether it had a frame, how many bytes that took up, whether it was accepted, whether its line was written, and
-// whether an expectation held or failed.
-#[derive(Clone, Copy)]
-struct Told {
-    there: bool,
-    taken: usize,
-    accepted: bool,
-    kept: bool,
-    held: bool,
-    failed: bool,
-}
+    // The number of the next frame.
+    fn number(&self) -> usize {
+        count(self.tally.frames, true)
+    }
 
-fn nothing() -> Told {
-    Told {
-        there: false,
-        taken: 0,
-        accepted: false,
-        kept: false,
-        held: false,
-        failed: false,
+    // The line ends at a place, and is written if those before it were. Tells whether it was.
+    fn write<O: Write, E: Write>(&mut self, streams: &mut Streams<O, E>, at: usize) -> bool {
+        let wanted = self.tally.kept == self.tally.frames;
+        let next = put(&mut self.line, at, b"\n");
+        console::tell_if(streams, wanted, b"explain", &self.line, next)
+    }
+
+    // The next frame, whose line of words has begun. An unreadable one ends the run.
+    fn carry_out<O: Write, E: Write>(
+        &mut self,
+        streams: &mut Streams<O, E>,
+        frame: &[u8],
+        at: usize,
+    ) -> Carried {
+        let before = self.state.words;
+        let carried = execution::carry_out(
+            frame,
+            &mut self.state.words,
+            &mut self.store,
+            &mut self.window,
+            &mut self.destination,
+        );
+        let n = console::within(&self.destination, carried.delivered);
+        let next = wording::put_words(
+            &mut self.line,
+            at,
+            frame,
+            carried.answer,
+            &before,
+            &self.state.words,
+            &self.destination[..n],
+        );
+        let kept = self.write(streams, next);
+        let tally = &mut self.tally;
+        tally.frames = count(tally.frames, true);
+        tally.carried = count(tally.carried, carried.answer.is_ok());
+        tally.early = carried.taken == 0;
+        tally.kept = count(tally.kept, kept);
+        carried
+    }
+
+    // What the log prints of the last frame, in the place of its line of words. Tells the place behind it.
+    fn log(&mut self, carried: Carried) -> usize {
+        let n = console::within(&self.destination, carried.delivered);
+        loglines::put_line(
+            &mut self.line,
+            0,
+            self.tally.frames,
+            carried.letter,
+            carried.answer,
+            &self.destination[..n],
+        )
+    }
+
+    // The next line of steps, and its frame, if it has one. The data of the frame pass through the destination.
+    fn step<O: Write, E: Write>(
+        &mut self,
+        streams: &mut Streams<O, E>,
+        place: usize,
+        step: &[u8],
+        frame: &mut [u8],
+    ) {
+        let Ok(Some(size)) = steps::frame_of(step, &mut self.destination, frame) else {
+            return;
+        };
+        let n = console::within(frame, size);
+        let number = self.number();
+        let at = begin_step(&mut self.line, number, place, step);
+        let carried = self.carry_out(streams, &frame[..n], at);
+        let end = self.log(carried);
+        let n = console::within(&self.line, end.saturating_sub(1));
+        let met = check(&mut streams.errors, place, step, &self.line[..n]);
+        self.tally.held = count(self.tally.held, met == Some(true));
+        self.tally.failed = count(self.tally.failed, met == Some(false));
     }
 }
 
-// An unreadable frame ends the run.
-fn is_end(told: Told) -> bool {
-    if told.there {
-        return told.taken == 0;
-    }
-    false
-}
-
-fn has_held(met: Met) -> bool {
-    match met {
-        Met::Held => true,
-        _ => false,
-    }
-}
-
-fn has_failed(met: Met) -> bool {
-    match met {
-        Met::Failed => true,
-        _ => false,
-    }
-}
-
-// A frame whose line has begun. What the log prints of it takes the place of the line, once that is written.
-fn tell_frame<O: Write, E: Write>(
+pub(crate) fn explain_steps<O: Write, E: Write>(
     streams: &mut Streams<O, E>,
-    by_lines: bool,
-    number: usize,
-    place: usize,
-    rest: &[u8],
-    frame: &[u8],
-    state: &mut [u16; CacheState::WORDS],
-    store: &mut [u8],
-    window: &mut [u8],
-    destination: &mut [u8],
-    line: &mut [u8],
-    at: usize,
-    wanted: bool,
-) -> Told {
-    let before = *state;
-    let carried = execution::carry_out(frame, state, store, window, destination);
-    let answer = carried.answer;
-    let n = console::within(destination, carried.delivered);
-    let delivered = &destination[..n];
-    let next = put_words(line, at, frame, answer, &before, state, delivered);
-    let kept = write(streams, line, next, wanted);
-    let logged = loglines::put_line(line, 0, number, carried.letter, answer, delivered);
-    let met = met(&mut streams.errors, by_lines, place, rest, line, logged);
-    Told {
-        there: true,
-        taken: carried.taken,
-        accepted: loglines::is_accepted(answer),
-        kept,
-        held: has_held(met),
-        failed: has_failed(met),
-    }
-}
-
-// What is left of the input begins with a unit. Its frame's data pass through the destination.
-fn tell<O: Write, E: Write>(
-    streams: &mut Streams<O, E>,
-    by_lines: bool,
-    number: usize,
-    place: usize,
-    rest: &[u8],
-    state: &mut [u16; CacheState::WORDS],
-    store: &mut [u8],
-    window: &mut [u8],
-    destination: &mut [u8],
-    frame: &mut [u8],
-    line: &mut [u8],
-    wanted: bool,
-) -> Told {
-    let unit = next_unit(by_lines, number, place, rest, destination, frame, line);
-    if unit.size == 0 {
-        return nothing();
-    }
-    let n = console::within(frame, unit.size);
-    tell_frame(
-        streams,
-        by_lines,
-        number,
-        place,
-        rest,
-        &frame[..n],
-        state,
-        store,
-        window,
-        destination,
-        line,
-        unit.at,
-        wanted,
-    )
-}
-
-// One unit more.
-fn add(tally: Tally, told: Told) -> Tally {
-    Tally {
-        frames: count(tally.frames, told.there),
-        carried: count(tally.carried, told.accepted),
-        early: is_end(told),
-        kept: count(tally.kept, told.kept),
-        held: count(tally.held, told.held),
-        failed: count(tally.failed, told.failed),
-    }
-}
-
-fn none() -> Tally {
-    Tally {
-        frames: 0,
-        carried: 0,
-        early: false,
-        kept: 0,
-        held: 0,
-        failed: 0,
-    }
-}
-
-pub(crate) fn explain<O: Write, E: Write>(
-    streams: &mut Streams<O, E>,
-    by_lines: bool,
     input: &[u8],
 ) -> Tally {
-    let mut state = CacheState::fresh();
-    let mut store = [0u8; CacheState::STORE];
-    let mut window = [0u8; WINDOW];
-    let mut destination = [0u8; CacheState::TRANSFER];
+    let mut run = Run::fresh();
     let mut frame = [0u8; script::FRAME];
-    let mut line = [0u8; LINE];
-    let mut tally = none();
-    let mut place = 0;
-    let mut at = 0;
-    while at < input.len() {
-        place = count(place, true);
-        let told = tell(
-            streams,
-            by_lines,
-            count(tally.frames, true),
-            place,
-            &input[at..],
-            &mut state.words,
-            &mut store,
-            &mut window,
-            &mut destination,
-            &mut frame,
-            &mut line,
-            tally.kept == tally.frames,
-        );
-        tally = add(tally, told);
-        if tally.early {
+    for (i, step) in Lines::of(input).enumerate() {
+        run.step(streams, i + 1, step, &mut frame);
+    }
+    run.tally
+}
+
+pub(crate) fn explain_frames<O: Write, E: Write>(
+    streams: &mut Streams<O, E>,
+    input: &[u8],
+) -> Tally {
+    let mut run = Run::fresh();
+    let mut rest = input;
+    // A turn goes on by as many bytes as its frame took up.
+    while !rest.is_empty() {
+        let n = console::within(rest, script::FRAME);
+        let number = run.number();
+        let at = begin_frame(&mut run.line, number);
+        let taken = run.carry_out(streams, &rest[..n], at).taken;
+        if taken == 0 {
             break;
         }
-        at = behind(by_lines, input, at, told.taken);
+        rest = &rest[rest.len().min(taken)..];
     }
-    tally
+    run.tally
 }

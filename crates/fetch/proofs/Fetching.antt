@@ -5,6 +5,7 @@ use mathlib.Core.Path.{◌≡◌, refl, ap, ap₂, sym, subst, ◌∙◌}
 use mathlib.Core.List.{List, [], ◌∷◌, map}
 use mathlib.Core.Bool.{true, false, false≢true}
 use lib.ListN.{length}
+use Rattle.std.specs.Prelude.{Result, Ok, Err}
 use Rattle.octets.specs.Lists.{overwrite, part}
 use Rattle.octets.proofs.Overwrite.{overwrite_none}
 use Rattle.state.specs.declared.Record.{Record}
@@ -21,14 +22,17 @@ use Rattle.state.proofs.Places.{counts_fill}
 use Rattle.store.specs.Store.{part_start, location, packed, byte_at, from, sees}
 use Rattle.store.proofs.Parts.{from_zero}
 use Rattle.cache.specs.Fetch.{admit_checks, fetch_says, fetch_state, fetch_store, fetch_dest}
-use Rattle.state.specs.declared.answer.FetchAnswer.{FetchAnswer}
-use Rattle.state.specs.declared.answer.FetchAnswer.TheVariants.{Done, Refused}
+use Rattle.state.specs.declared.answer.FetchCounts.{FetchCounts}
 use Rattle.state.specs.Answers.{fetch_reply}
 use Rattle.admission.proofs.Admitted.{Admits, admits, bytes_barred, records_barred, none_barred}
 use Rattle.admission.proofs.Nothing.{nothing_joined, nothing_held, nothing_new, nothing_added}
-use Rattle.holding.specs.Holding.{MayHold, Held, BytesFull, RecordsFull}
+use Rattle.holding.specs.Holding.{MayHold, Held, Holds}
 use Rattle.holding.proofs.Held.{span_placed, span_reads}
 use Rattle.fetch.specs.Fetch.{Fetches}
+
+-- what an accepted fetch gives
+abbrev pub done : (new again look : ℕ) → Result FetchCounts Refusal
+done new again look = Ok (record { fresh = new; replayed = again; looked = look })
 
 module _ (words store window dest : List ℕ) (c a n : ℕ) where
   abbrev s : State
@@ -44,7 +48,7 @@ module _ (words store window dest : List ℕ) (c a n : ℕ) where
   abbrev seen : ℕ → ℕ
   seen = sees rs (location s c) store (byte_at window)
 
-  refusing : (why : Refusal) → says ≡ refused (number why) → Fetches words store window dest c a n (Refused why) words store dest
+  refusing : (why : Refusal) → says ≡ refused (number why) → Fetches words store window dest c a n (Err why) words store dest
   unfolding accepted fetch_state fetch_store fetch_dest
   refusing why is =
       let no : accepted says ≡ false = ap accepted is in
@@ -52,12 +56,12 @@ module _ (words store window dest : List ℕ) (c a n : ℕ) where
 
   pub barred :
       (why : Refusal) → verdict (admit_checks s (length store) (length window) (length dest) c a n) (replied []) ≡ refused (number why)
-      → Fetches words store window dest c a n (Refused why) words store dest
+      → Fetches words store window dest c a n (Err why) words store dest
   unfolding fetch_says
   barred why is = refusing why (verdict_bars (admit_checks s (length store) (length window) (length dest) c a n) _ [] _ (number why) is)
 
   accepting :
-      (r : FetchAnswer) (words' store' dest' ns : List ℕ) → fetch_reply r ≡ replied ns → says ≡ replied ns
+      (r : Result FetchCounts Refusal) (words' store' dest' ns : List ℕ) → fetch_reply r ≡ replied ns → says ≡ replied ns
       → state_of words' ≡ with_command s c (open_with (joined rs a n)) → store' ≡ packed store c (joined rs a n) seen
       → dest' ≡ overwrite dest 0 (map seen (span a n)) → Fetches words store window dest c a n r words' store' dest'
   unfolding accepted fetch_state fetch_store fetch_dest
@@ -102,17 +106,16 @@ module _ (words store window dest : List ℕ) (c a n : ℕ) where
       }
 
       module _ (words' store' : List ℕ) where
-        pub bytes_refused : BytesFull words store c a n words' store' → Fetches words store window dest c a n (Refused TooManyBytes) words' store' dest
+        pub full_refused :
+            (why : Refusal) → Holds words store c a n 0 window (Err why) words' store' → Fetches words store window dest c a n (Err why) words' store' dest
         unfolding fetch_says
-        bytes_refused full =
+        full_refused TooManyBytes full =
             rw (full.same_words, full.same_store)
             (refusing TooManyBytes (bytes_barred s (length store) (length window) (length dest) c a n e _ full.many))
-
-        pub records_refused : RecordsFull words store c a n words' store' → Fetches words store window dest c a n (Refused TooManyRecords) words' store' dest
-        unfolding fetch_says
-        records_refused full =
+        full_refused TooManyRecords full =
             rw (full.same_words, full.same_store)
             (refusing TooManyRecords (records_barred s (length store) (length window) (length dest) c a n e _ full.bytes full.many))
+        full_refused _ full = absurd full
 
         -- the span is held and delivered
         module _ (new at look : ℕ) (H : Held words store c a n 0 window new at look words' store') where
@@ -124,9 +127,9 @@ module _ (words store window dest : List ℕ) (c a n : ℕ) where
 
           pub span_fetched :
               (dest' : List ℕ) → dest' ≡ overwrite dest 0 (part store' (part_start c + at) n)
-              → Fetches words store window dest c a n (Done new (n - new) look) words' store' dest'
+              → Fetches words store window dest c a n (done new (n - new) look) words' store' dest'
           span_fetched dest' delivered =
-              accepting (Done new (n - new) look) words' store' dest' (fresh rs a n ∷ (n - fresh rs a n) ∷ looked rs a n ∷ [])
+              accepting (done new (n - new) look) words' store' dest' (fresh rs a n ∷ (n - fresh rs a n) ∷ looked rs a n ∷ [])
               (ap₂ (λ (k l : ℕ). replied (k ∷ (n - k) ∷ l ∷ [])) H.counted H.looks)
               (taken H.bytes H.records) H.state (H.stored ∙ ap (packed store c (joined rs a n)) from_window)
               (delivered ∙ ap (overwrite dest 0) (span_reads words store c a n 0 window may_hold new at look words' store' H)
@@ -139,11 +142,11 @@ module _ (words store window dest : List ℕ) (c a n : ℕ) where
 none_fetched :
     (words store window dest : List ℕ) (c a : ℕ)
     → accepted (verdict (admit_checks (state_of words) (length store) (length window) (length dest) c a 0) (replied [])) ≡ true
-    → Fetches words store window dest c a 0 (Done 0 0 0) words store dest
+    → Fetches words store window dest c a 0 (done 0 0 0) words store dest
 unfolding span count_fresh looked
 none_fetched words store window dest c a e =
     let A = admits (state_of words) (length store) (length window) (length dest) c a 0 e in
-    accepting words store window dest c a 0 (Done 0 0 0) words store dest (0 ∷ 0 ∷ 0 ∷ []) refl
+    accepting words store window dest c a 0 (done 0 0 0) words store dest (0 ∷ 0 ∷ 0 ∷ []) refl
     (taken words store window dest c a 0 e (nothing_new words store (length window) (length dest) c a A)
     (nothing_added words store (length window) (length dest) c a A))
     (nothing_joined words store (length window) (length dest) c a A)
@@ -152,8 +155,8 @@ none_fetched words store window dest c a e =
 pub nothing :
     (words store window dest : List ℕ) (c a n : ℕ) → n ≡ 0
     → accepted (verdict (admit_checks (state_of words) (length store) (length window) (length dest) c a n) (replied [])) ≡ true
-    → Fetches words store window dest c a n (Done 0 0 0) words store dest
+    → Fetches words store window dest c a n (done 0 0 0) words store dest
 nothing words store window dest c a n none e =
-    subst (λ (k : ℕ). Fetches words store window dest c a k (Done 0 0 0) words store dest) (sym none)
+    subst (λ (k : ℕ). Fetches words store window dest c a k (done 0 0 0) words store dest) (sym none)
     (none_fetched words store window dest c a
     (subst (λ (k : ℕ). accepted (verdict (admit_checks (state_of words) (length store) (length window) (length dest) c a k) (replied [])) ≡ true) none e))

@@ -16,6 +16,9 @@ const INPUT: usize = journal::MOST + 1;
 // The window of the log program.
 const WINDOW: usize = 16384;
 
+// Steps that are given for frames.
+const STEPS: &[u8] = b"fetchlog: the input looks like steps; framewriter makes frames of steps\n";
+
 fn main(rt: HostRuntime) {
     let mut streams = Streams {
         output: rt.stdout(),
@@ -55,8 +58,7 @@ fn ask<R: Env + Files, O: Write, E: Write>(rt: &R, streams: &mut Streams<O, E>) 
 fn run<R: Read + Drop, O: Write, E: Write>(streams: &mut Streams<O, E>, mut from: R) {
     let mut input = [0u8; INPUT];
     let reading = console::read_whole(&mut streams.errors, b"fetchlog", &mut from, &mut input);
-    if reading.whole {
-        let n = reading.count;
+    if let Ok(n) = reading {
         run_all(streams, &input[..n]);
     }
 }
@@ -72,7 +74,7 @@ fn run_all<O: Write, E: Write>(streams: &mut Streams<O, E>, input: &[u8]) {
 // What document 01 (the agreed scope; docs/RULES.md has its rules) prints for an input that is too long.
 fn refuse<O: Write, E: Write>(streams: &mut Streams<O, E>, input: &[u8]) {
     console::tell(streams, b"fetchlog", b"input too long\n");
-    say_if_text(&mut streams.errors, input);
+    console::say_if_text(&mut streams.errors, input, STEPS);
     console::say_text(
         &mut streams.errors,
         b"fetchlog: the input is above 32768 bytes, no frame is run\n",
@@ -95,19 +97,9 @@ fn print<O: Write, E: Write>(streams: &mut Streams<O, E>, input: &[u8]) {
         &mut line,
     );
     if printed.early {
-        say_if_text(&mut streams.errors, input);
+        console::say_if_text(&mut streams.errors, input, STEPS);
     }
     sum_up(&mut streams.errors, printed);
-}
-
-// Steps that are given for frames.
-fn say_if_text<E: Write>(errors: &mut E, input: &[u8]) {
-    if textlike::looks_like_text(input) {
-        console::say_text(
-            errors,
-            b"fetchlog: the input looks like steps; framewriter makes frames of steps\n",
-        );
-    }
 }
 
 // The last line on standard error.

@@ -8,7 +8,6 @@ ghost use Rattle.journal.specs.Run.{entries, log_from};
 ghost use Rattle.fetchlog.specs.Print.{Shows, Prints};
 
 use console::Streams;
-use numbers::one_if;
 use state::CacheState;
 use std::io::Write;
 
@@ -68,7 +67,7 @@ fn summed(read: usize, carried: usize, early: bool, kept: usize) -> Printed
     ensures kept { result.kept ≡ kept }
 {
     Printed {
-        frames: read + one_if(early),
+        frames: read + usize::from(early),
         carried,
         refused: read - carried,
         early,
@@ -90,15 +89,17 @@ pub(crate) fn print_log<O: Write, E: Write>(
     ensures prints { Prints (device_of state.old store.old window.old destination.old) input.now result state.new store.new window.new destination.new }
     ensures printed { result.kept ≡ result.frames → Appends (O.contents streams.old.output) (O.contents streams.new.output) (log_from 1 (entries (device_of state.old store.old window.old destination.old) input.now)) }
 {
-    let mut at = 0;
+    let mut rest = input;
     let mut number = 0;
     let mut carried = 0;
     let mut kept = 0;
-    while at < input.len() {
+    // A turn goes on by as many bytes as its frame took up.
+    // `replay` has a loop of this form. One function for both would be lent all that a turn changes, which is no plainer.
+    while !rest.is_empty() {
         let r = print_frame(
             streams,
             number + 1,
-            &input[at..],
+            rest,
             state,
             store,
             window,
@@ -106,14 +107,13 @@ pub(crate) fn print_log<O: Write, E: Write>(
             line,
             kept == number,
         );
-        kept = kept + one_if(r.kept);
-        let taken = r.taken;
-        if taken == 0 {
+        kept += usize::from(r.kept);
+        if r.taken == 0 {
             return summed(number, carried, true, kept);
         }
-        carried = carried + one_if(r.accepted);
-        number = number + 1;
-        at = at + taken;
+        carried += usize::from(r.accepted);
+        number += 1;
+        rest = &rest[r.taken..];
     }
     summed(number, carried, false, kept)
 }

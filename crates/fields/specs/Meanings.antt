@@ -1,13 +1,9 @@
 -- What the fields of a kind of step mean.
-use Rattle.std.specs.Prelude.{ℕ, List, Bool, true, false, not, ◌&&◌, cond}
+use Rattle.std.specs.Prelude.{ℕ, List, Bool, not, ◌&&◌, cond, Result, Ok, Err}
 use Rattle.kinds.specs.Table.{kind_of}
 use Rattle.fields.specs.declared.Fault.{Fault}
-use Rattle.fields.specs.declared.Fault.TheVariants.{Sound, UnknownLetter, FieldMissing, NotANumber, NotHexadecimal, OddDigits, FieldTooMany}
-use Rattle.fields.specs.declared.Fault.TheVariants.{ByteOrderMark, NothingExpected, NoStep}
 use Rattle.fields.specs.declared.Field.{Field}
 use Rattle.fields.specs.declared.Step.{Step}
-use Rattle.fields.specs.declared.Meaning.{Meaning}
-use Rattle.fields.specs.declared.Meaning.TheVariants.{Step as Steps, Bad}
 use Rattle.fields.specs.Fields.{number_field, data_field, data_bytes, end_fault}
 
 -- a length stands in the line of a kind whose span is not zero and whose data do not say it
@@ -18,24 +14,10 @@ has_size kind = not (kind_of kind).span_zero && not (kind_of kind).has_data
 unfoldable pub size_of : (kind size given : ℕ) → ℕ
 size_of kind size given = cond (kind_of kind).has_data given size
 
-abbrev pub is_sound : Fault → Bool
-is_sound Sound = true
-is_sound UnknownLetter = false
-is_sound FieldMissing = false
-is_sound NotANumber = false
-is_sound NotHexadecimal = false
-is_sound OddDigits = false
-is_sound FieldTooMany = false
-is_sound ByteOrderMark = false
-is_sound NothingExpected = false
-is_sound NoStep = false
-
--- of two faults the first, if there is one
-unfoldable pub first_fault : Fault → Fault → Fault
-first_fault one other = cond (is_sound one) other one
-
-unfoldable pub judged : Fault → Step → Meaning
-judged fault step = cond (is_sound fault) (Steps step) (Bad fault)
+-- the value, handed on to what comes next, if no fault comes before
+abbrev pub after : {A B : Type 0} → Result A Fault → (A → Result B Fault) → Result B Fault
+after (Ok a) next = next a
+after (Err fault) next = Err fault
 
 module _ (text : List ℕ) (kind : ℕ) where
   -- the fields in their order, from the front of the text on: the command, the address, the length and the data, as far as the kind has them
@@ -51,23 +33,15 @@ module _ (text : List ℕ) (kind : ℕ) where
   abbrev pub given_field : Field
   given_field = data_field text size_field.next (kind_of kind).has_data
 
-  -- the first fault from the left
-  abbrev pub fields_fault : Fault
-  fields_fault =
-      first_fault command_field.fault
-      (first_fault address_field.fault
-      (first_fault size_field.fault (first_fault given_field.fault (end_fault text given_field.next))))
-
-  unfoldable pub fields_mean : Meaning
+  -- the first fault from the left, or the step
+  unfoldable pub fields_mean : Result Step Fault
   fields_mean =
-      judged fields_fault
-      (record {
-        kind = kind;
-        command = command_field.value;
-        address = address_field.value;
-        size = size_of kind size_field.value given_field.value;
-        given = given_field.value;
-      })
+      after command_field.value
+      (λ command. after address_field.value
+      (λ address. after size_field.value
+      (λ size. after given_field.value
+      (λ given. after (end_fault text given_field.next)
+      (λ _. Ok (record { kind = kind; command = command; address = address; size = size_of kind size given; given = given }))))))
 
   -- the bytes of the data
   unfoldable pub fields_data : List ℕ

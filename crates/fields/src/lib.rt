@@ -7,9 +7,8 @@ mod words;
 pub use meanings::meaning_of;
 
 // What is wrong with a field or a line.
-#[derive(Clone, Copy)]
+#[derive(Clone, Copy, PartialEq, Eq)]
 pub enum Fault {
-    Sound,
     UnknownLetter,
     FieldMissing,
     NotANumber,
@@ -23,15 +22,14 @@ pub enum Fault {
     NoStep,
 }
 
-// A field: the number that it gives, the place behind it, and what is wrong with it.
+// A field: the number that it gives or what is wrong with it, and the place behind it.
 #[derive(Clone, Copy)]
 pub struct Field {
-    pub value: usize,
+    pub value: Result<usize, Fault>,
     pub next: usize,
-    pub fault: Fault,
 }
 
-// The numbers of a step, and how many bytes of data are given with it.
+// The numbers of a step, and how many bytes of data are given with it. Its kind is a number, since the fields of any number have a meaning.
 #[derive(Clone, Copy)]
 pub struct Step {
     pub kind: usize,
@@ -39,12 +37,4 @@ pub struct Step {
     pub address: usize,
     pub size: usize,
     pub given: usize,
-}
-
-#[derive(Clone, Copy)]
-pub enum Meaning {
-    // no more than blanks and a comment
-    Nothing,
-    Step(Step),
-    Bad(Fault),
 }

@@ -1,86 +1,48 @@
 // The fields of a kind of step, in their order.
 ghost use Rattle.std.specs.Prelude.{◌≡◌, length, take};
 ghost use Rattle.octets.specs.Lists.{overwrite};
-ghost use Rattle.fields.specs.Meanings.{has_size, size_of, is_sound, first_fault, judged, fields_mean, fields_data};
+ghost use Rattle.fields.specs.Meanings.{has_size, size_of, fields_mean, fields_data};
 
 use crate::words::{data_field, end_fault, number_field};
-use crate::{Fault, Meaning, Step};
+use crate::{Fault, Step};
+use kinds::{command_zero, has_data, span_zero};
 
 // Does a length stand in the line of a kind? That of the data does not.
+#[tactic(auto, unfolding(crate::specs::Meanings::has_size))]
 fn has_size(kind: usize) -> bool
     ensures { result ≡ has_size kind }
 {
-    if kinds::span_zero(kind) {
-        return false;
-    }
-    !kinds::has_data(kind)
+    !span_zero(kind) && !has_data(kind)
 }
 
+#[tactic(auto, unfolding(crate::specs::Meanings::size_of))]
 fn size_of(kind: usize, size: usize, given: usize) -> usize
     ensures { result ≡ size_of kind size given }
 {
-    if kinds::has_data(kind) { given } else { size }
+    if has_data(kind) { given } else { size }
 }
 
-fn is_sound(fault: Fault) -> bool
-    ensures { result ≡ is_sound fault }
-{
-    match fault {
-        Fault::Sound => true,
-        Fault::UnknownLetter => false,
-        Fault::FieldMissing => false,
-        Fault::NotANumber => false,
-        Fault::NotHexadecimal => false,
-        Fault::OddDigits => false,
-        Fault::FieldTooMany => false,
-        Fault::ByteOrderMark => false,
-        Fault::NothingExpected => false,
-        Fault::NoStep => false,
-    }
-}
-
-fn first_fault(one: Fault, other: Fault) -> Fault
-    ensures { result ≡ first_fault one other }
-{
-    if is_sound(one) { other } else { one }
-}
-
-fn judged(fault: Fault, step: Step) -> Meaning
-    ensures { result ≡ judged fault step }
-{
-    if is_sound(fault) {
-        return Meaning::Step(step);
-    }
-    Meaning::Bad(fault)
-}
-
-// What the fields of a kind mean, which are all of a text. Their data are put to the front of the buffer.
-pub fn meaning_of(text: &[u8], kind: usize, buffer: &mut [u8]) -> Meaning
+// What the fields of a kind mean, which are all of a text. Their data are put to the front of the buffer, also where another field is at
+// fault; so each field is read before the first fault is looked for.
+#[tactic(auto, unfolding(crate::specs::Meanings::fields_mean, crate::specs::Meanings::fields_data))]
+pub fn meaning_of(text: &[u8], kind: usize, buffer: &mut [u8]) -> Result<Step, Fault>
     ensures meaning { result ≡ fields_mean text.now kind }
     ensures bytes { buffer.new ≡ overwrite buffer.old 0 (take (length buffer.old) (fields_data text.now kind)) }
 {
-    let command = number_field(text, 0, !kinds::command_zero(kind));
-    let address_at = command.next;
-    let address = number_field(text, address_at, !kinds::span_zero(kind));
-    let size_at = address.next;
-    let size = number_field(text, size_at, has_size(kind));
-    let data_at = size.next;
-    let data = data_field(text, data_at, kinds::has_data(kind), buffer);
-    let end = data.next;
-    let command_fault = command.fault;
-    let address_fault = address.fault;
-    let size_fault = size.fault;
-    let data_fault = data.fault;
-    let fault = first_fault(data_fault, end_fault(text, end));
-    let fault = first_fault(size_fault, fault);
-    let fault = first_fault(address_fault, fault);
-    let fault = first_fault(command_fault, fault);
-    let step = Step {
+    let command = number_field(text, 0, !command_zero(kind));
+    let address = number_field(text, command.next, !span_zero(kind));
+    let size = number_field(text, address.next, has_size(kind));
+    let data = data_field(text, size.next, has_data(kind), buffer);
+    let command = command.value?;
+    let address = address.value?;
+    let size = size.value?;
+    let given = data.value?;
+    end_fault(text, data.next)?;
+    Ok(Step {
         kind,
-        command: command.value,
-        address: address.value,
-        size: size_of(kind, size.value, data.value),
-        given: data.value,
-    };
-    judged(fault, step)
+        command,
+        address,
+        size: size_of(kind, size, given),
+        given,
+    })
 }

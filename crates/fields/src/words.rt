@@ -6,28 +6,18 @@ ghost use Rattle.fields.specs.Fields.{absent, number_of, number_field, is_dash, 
 use crate::{Fault, Field};
 use scan::{Stop, decode, has_word, until, value};
 
+#[tactic(auto, unfolding(crate::specs::Fields::number_of))]
 fn number(word: &[u8], next: usize) -> Field
     ensures { result ≡ number_of word.now next }
 {
-    if word.len() == 0 {
-        return Field {
-            value: 0,
-            next,
-            fault: Fault::FieldMissing,
-        };
-    }
-    if until(word, 0, Stop::NotDecimal) < word.len() {
-        return Field {
-            value: 0,
-            next,
-            fault: Fault::NotANumber,
-        };
-    }
-    Field {
-        value: value(word),
-        next,
-        fault: Fault::Sound,
-    }
+    let value = if word.is_empty() {
+        Err(Fault::FieldMissing)
+    } else if until(word, 0, Stop::NotDecimal) < word.len() {
+        Err(Fault::NotANumber)
+    } else {
+        Ok(value(word))
+    };
+    Field { value, next }
 }
 
 // A field that is not wanted: nothing is read.
@@ -35,13 +25,13 @@ fn absent(at: usize) -> Field
     ensures { result ≡ absent at }
 {
     Field {
-        value: 0,
+        value: Ok(0),
         next: at,
-        fault: Fault::Sound,
     }
 }
 
 // The number that stands next, if one is wanted.
+#[tactic(auto, using(scan::proofs::Scanning::word_end_most), unfolding(crate::specs::Fields::number_field, crate::specs::Fields::number_of))]
 pub(crate) fn number_field(text: &[u8], at: usize, wanted: bool) -> Field
     requires { at ≤ length text.now }
     ensures field { result ≡ number_field text.now at wanted }
@@ -56,6 +46,7 @@ pub(crate) fn number_field(text: &[u8], at: usize, wanted: bool) -> Field
 }
 
 // The data that stand next, if data are wanted: how many bytes they are, of which there may be none. They are put to the front of the buffer.
+#[tactic(auto, using(scan::proofs::Scanning::word_end_most), unfolding(crate::specs::Fields::data_field, crate::specs::Fields::data_bytes))]
 pub(crate) fn data_field(text: &[u8], at: usize, wanted: bool, buffer: &mut [u8]) -> Field
     requires { at ≤ length text.now }
     ensures field { result ≡ data_field text.now at wanted }
@@ -69,43 +60,41 @@ pub(crate) fn data_field(text: &[u8], at: usize, wanted: bool, buffer: &mut [u8]
     let word = &text[from..to];
     decode(word, buffer);
     Field {
-        value: word.len() / 2,
+        value: data_fault(word).map(|()| word.len() / 2),
         next: to,
-        fault: data_fault(word),
     }
 }
 
 // Nothing more may stand in the text.
-pub(crate) fn end_fault(text: &[u8], at: usize) -> Fault
+#[tactic(auto, unfolding(crate::specs::Fields::end_fault))]
+pub(crate) fn end_fault(text: &[u8], at: usize) -> Result<(), Fault>
     ensures { result ≡ end_fault text.now at }
 {
     if has_word(text, at) {
-        return Fault::FieldTooMany;
+        return Err(Fault::FieldTooMany);
     }
-    Fault::Sound
+    Ok(())
 }
 
 // What is wrong with a word of data. A dash stands for no data.
-fn data_fault(word: &[u8]) -> Fault
+#[tactic(auto, unfolding(crate::specs::Fields::data_fault))]
+fn data_fault(word: &[u8]) -> Result<(), Fault>
     ensures { result ≡ data_fault word.now }
 {
     if is_dash(word) {
-        return Fault::Sound;
+        return Ok(());
     }
     if until(word, 0, Stop::NotHex) < word.len() {
-        return Fault::NotHexadecimal;
+        return Err(Fault::NotHexadecimal);
     }
     if word.len() % 2 == 1 {
-        return Fault::OddDigits;
+        return Err(Fault::OddDigits);
     }
-    Fault::Sound
+    Ok(())
 }
 
 fn is_dash(word: &[u8]) -> bool
     ensures { result ≡ is_dash word.now }
 {
-    if word.len() != 1 {
-        return false;
-    }
-    word[0] == b'-'
+    matches!(word, [b'-'])
 }

@@ -1,14 +1,15 @@
 -- What an accepted frame tells, to the reader and to the writer: none of its checks applies.
 use Prim.Native.Nat.{ℕ, ◌-◌, ◌≤◌, ◌<◌}
+use Rattle.std.specs.Prelude.{Result, Ok}
 use native.Mathlib.Omega.{arith}
 use mathlib.Core.Path.{◌≡◌, ap, sym, ◌∙◌}
 use mathlib.Core.List.{[], ◌∷◌}
 use mathlib.Core.Bool.{true, false}
 use borrow.Author.Tests.{le-ltb, lt-ltb, ltb-true, ltb-false, lt-leb, leb-false, eq-eqb, eqb-true, not-false}
 use Rattle.state.specs.Limits.{command_limit, transfer_limit, window_limit}
-use Rattle.state.specs.Verdict.{Reply, replied, accepted, verdict}
+use Rattle.state.specs.Verdict.{replied, accepted, verdict}
 use Rattle.state.proofs.Verdict.{none_applies}
-use Rattle.frames.specs.declared.WriteAnswer.{WriteAnswer}
+use Rattle.state.specs.declared.refusal.Refusal.{Refusal}
 use Rattle.frames.specs.Bits.{fit}
 use Rattle.frames.specs.Layout.{field_widths, head_size}
 use Rattle.frames.specs.Kinds.{data_size, frame_size}
@@ -77,6 +78,11 @@ module _ (kind command address size given room : ℕ) where
   pub writable_fit : Writable → fit field_widths (kind ∷ command ∷ address ∷ size ∷ 0 ∷ []) ≡ true
   writable_fit w = below_fields kind command address size 0 (omega arith)
 
--- whether a reply accepts, by the case of the writer's answer that it is
-pub answered : (r : Reply) {w v : WriteAnswer} → write_reply w ≡ r → w ≡ v → accepted r ≡ accepted (write_reply v)
-answered r p e = sym (ap accepted p) ∙ ap (λ (w : WriteAnswer). accepted (write_reply w)) e
+  -- the same where the writer's answer is a size
+  module _ (answer : Result ℕ Refusal) (n : ℕ) (says : write_reply answer ≡ write_says kind command address size given room) (ok : answer ≡ Ok n) where
+    pub written : accepted (write_says kind command address size given room) ≡ true
+    unfolding accepted
+    written = ap accepted (sym says ∙ ap write_reply ok)
+
+    pub written_fit : fit field_widths (kind ∷ command ∷ address ∷ size ∷ 0 ∷ []) ≡ true
+    written_fit = writable_fit (writable written)

@@ -1,6 +1,6 @@
--- What a frame whose zero fields are zero tells of each of them, and what an answer of the code tells of its definition.
+-- What a frame whose zero fields are zero tells of each of them.
 use Prim.Native.Nat.{ℕ}
-use mathlib.Core.Path.{◌≡◌, refl, sym, ◌∙◌}
+use mathlib.Core.Path.{◌≡◌, refl}
 use mathlib.Core.Bool.{Bool, true, false, false≢true, ◌||◌}
 use lib.Dec.{eqb}
 use borrow.Author.Tests.{eqb-true, not-false}
@@ -19,14 +19,6 @@ is_zero_lem : (must : Bool) (n : ℕ) → not_zero must n ≡ false → must ≡
 unfolding not_zero
 is_zero_lem true n e h = eqb-true n 0 (not-false (eqb n 0) e)
 is_zero_lem false n e h = absurd (false≢true h)
-
--- the code's answer r is that of the definition, k, and a test showed which it is
-pub said : (k : Bool) {r b : Bool} → r ≡ k → r ≡ b → k ≡ b
-said k p h = sym p ∙ h
-
--- the same where the answer was asked of another answer, m
-pub told : {r m k b : Bool} (n : ℕ) → r ≡ not_zero m n → m ≡ k → r ≡ b → not_zero k n ≡ b
-told n p q h = cc
 
 pub record Zeros (kind command address size spare : ℕ) : Type 0 where
   pub command_zero_lem : (kind_of kind).command_zero ≡ true → command ≡ 0

@@ -1,14 +1,14 @@
 -- Reading a frame (01, the agreed scope, "Step frames"; docs/RULES.md has its rules): the step and the number of bytes that it took up,
 -- or a refusal.
-use Rattle.std.specs.Prelude.{ℕ, ◌-◌, List, [], ◌∷◌, cond, ◌&&◌, leb, length, get_or}
+use Rattle.std.specs.Prelude.{ℕ, ◌-◌, List, [], ◌∷◌, Result, cond, ◌&&◌, leb, length, get_or}
 use Rattle.octets.specs.Lists.{part}
-use Rattle.state.specs.Refusals.{number}
-use Rattle.state.specs.Verdict.{Reply, refused, replied, Check, verdict}
+use Rattle.state.specs.declared.refusal.Refusal.{Refusal}
+use Rattle.state.specs.Answers.{reply_of}
+use Rattle.state.specs.Verdict.{Reply, replied, Check, verdict}
 use Rattle.state.specs.Checks.{length_too_long}
 use Rattle.frames.specs.declared.Step.{Step}
 use Rattle.frames.specs.declared.Step.TheVariants.{Begin, Fetch, End, HostWrite, OwnWrite}
-use Rattle.frames.specs.declared.ReadAnswer.{ReadAnswer}
-use Rattle.frames.specs.declared.ReadAnswer.TheVariants.{Step as Took, Refused}
+use Rattle.frames.specs.declared.Parsed.{Parsed}
 use Rattle.frames.specs.Layout.{head_size, fields_of}
 use Rattle.frames.specs.Kinds.{frame_size}
 use Rattle.frames.specs.Checks.{frame_too_short, unknown_kind, field_not_zero, data_missing}
@@ -22,9 +22,8 @@ step_numbers (HostWrite a n) = 3 ∷ 0 ∷ a ∷ n ∷ []
 step_numbers (OwnWrite c a n) = 4 ∷ c ∷ a ∷ n ∷ []
 
 -- 01's answer, for each case of the reader's
-abbrev pub read_reply : ReadAnswer → Reply
-read_reply (Took p) = replied (p.consumed ∷ step_numbers p.step)
-read_reply (Refused r) = refused (number r)
+abbrev pub read_reply : Result Parsed Refusal → Reply
+read_reply = reply_of (λ (p : Parsed). p.consumed ∷ step_numbers p.step)
 
 -- what the fields say; given is how many bytes there are
 module _ (given kind command address size spare : ℕ) where

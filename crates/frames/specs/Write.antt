@@ -1,20 +1,18 @@
 -- Writing a frame (01, the agreed scope, "Step frames"; docs/RULES.md has its rules): its bytes go to the front of the output, and the
 -- reply is their number.
-use Rattle.std.specs.Prelude.{ℕ, List, [], ◌∷◌, ◌++◌, cond, length}
+use Rattle.std.specs.Prelude.{ℕ, List, [], ◌∷◌, ◌++◌, Result, cond, length}
 use Rattle.octets.specs.Lists.{overwrite}
-use Rattle.state.specs.Refusals.{number}
-use Rattle.state.specs.Verdict.{Reply, refused, replied, accepted, Check, verdict}
+use Rattle.state.specs.declared.refusal.Refusal.{Refusal}
+use Rattle.state.specs.Answers.{reply_of}
+use Rattle.state.specs.Verdict.{Reply, replied, accepted, Check, verdict}
 use Rattle.state.specs.Checks.{length_too_long, command_too_high, buffer_too_short}
-use Rattle.frames.specs.declared.WriteAnswer.{WriteAnswer}
-use Rattle.frames.specs.declared.WriteAnswer.TheVariants.{Written, Refused}
 use Rattle.frames.specs.Layout.{head_bytes}
 use Rattle.frames.specs.Kinds.{frame_size}
 use Rattle.frames.specs.Checks.{unknown_kind, field_not_zero, data_mismatch, address_too_high}
 
 -- 01's answer, for each case of the writer's
-abbrev pub write_reply : WriteAnswer → Reply
-write_reply (Written n) = replied (n ∷ [])
-write_reply (Refused r) = refused (number r)
+abbrev pub write_reply : Result ℕ Refusal → Reply
+write_reply = reply_of (λ (n : ℕ). n ∷ [])
 
 -- given is how many bytes of data there are, and room how long the output is
 module _ (kind command address size given room : ℕ) where

@@ -1,11 +1,11 @@
 // The head of a frame: five bytes that hold five fields, the first in the most significant bits.
-ghost use Rattle.std.specs.Prelude.{◌≡◌, true, [], ◌∷◌, ◌<◌, ◌≤◌, ◌^◌, length};
-ghost use Rattle.octets.specs.Lists.{overwrite};
+ghost use Rattle.std.specs.Prelude.{◌≡◌, true, [], ◌∷◌, ◌<◌, ◌^◌};
 ghost use Rattle.frames.specs.Bits.{bits, pack, unpack, fit};
-ghost use Rattle.frames.specs.Layout.{field_widths, byte_widths, head_size, fields_of, head_fields};
+ghost use Rattle.frames.specs.Layout.{field_widths, byte_widths, fields_of, head_fields};
 
 #[derive(Clone, Copy)]
 pub(crate) struct Head {
+    // a number, since a frame may hold one that is no kind
     pub kind: usize,
     pub command: usize,
     pub address: usize,
@@ -32,29 +32,15 @@ const BELOW_SECOND: usize = BELOW_THIRD << 8;
 
 const BELOW_FIRST: usize = BELOW_SECOND << 8;
 
-fn wide(byte: u8) -> usize
-    ensures { (result ≡ byte) × (result < 256) }
-{
-    byte as usize
-}
-
-fn narrow(n: usize) -> u8
-    requires { n < 256 }
-    ensures { result ≡ n }
-{
-    n as u8
-}
-
 // The bytes of a head as one number.
-fn number(frame: &[u8]) -> usize
-    requires { head_size ≤ length frame.now }
-    ensures { result ≡ pack byte_widths frame.now }
+fn number(head: &[u8; HEAD]) -> usize
+    ensures { result ≡ pack byte_widths head.now }
 {
-    let first = wide(frame[0]) * BELOW_FIRST;
-    let second = wide(frame[1]) * BELOW_SECOND;
-    let third = wide(frame[2]) * BELOW_THIRD;
-    let fourth = wide(frame[3]) * BELOW_FOURTH;
-    first + second + third + fourth + wide(frame[4])
+    let first = usize::from(head[0]) * BELOW_FIRST;
+    let second = usize::from(head[1]) * BELOW_SECOND;
+    let third = usize::from(head[2]) * BELOW_THIRD;
+    let fourth = usize::from(head[3]) * BELOW_FOURTH;
+    first + second + third + fourth + usize::from(head[4])
 }
 
 // The fields that stand in a number.
@@ -73,14 +59,15 @@ fn fields(n: usize) -> Head
     }
 }
 
-pub(crate) fn read_head(frame: &[u8]) -> Head
-    requires { head_size ≤ length frame.now }
-    ensures { head_fields result ≡ fields_of frame.now }
+#[tactic(auto, unfolding(crate::specs::Layout::fields_of))]
+pub(crate) fn read_head(head: &[u8; HEAD]) -> Head
+    ensures { head_fields result ≡ fields_of head.now }
 {
-    fields(number(frame))
+    fields(number(head))
 }
 
 // The number in which the fields stand, with the spare bits zero.
+#[tactic(auto, using(crate::proofs::Heads::fields_below))]
 pub(crate) fn packed(kind: usize, command: usize, address: usize, size: usize) -> usize
     requires { fit field_widths (kind ∷ command ∷ address ∷ size ∷ 0 ∷ []) ≡ true }
     ensures { result ≡ pack field_widths (kind ∷ command ∷ address ∷ size ∷ 0 ∷ []) }
@@ -88,17 +75,19 @@ pub(crate) fn packed(kind: usize, command: usize, address: usize, size: usize) -
     kind * BELOW_KIND + command * BELOW_COMMAND + address * BELOW_ADDRESS + size * BELOW_SIZE
 }
 
-// Puts the bytes of a number at the front of the output.
-pub(crate) fn write_head(output: &mut [u8], n: usize)
-    requires { (head_size ≤ length output.old) × (n < 2 ^ bits byte_widths) }
-    ensures { output.new ≡ overwrite output.old 0 (unpack byte_widths n) }
+// The bytes of a number.
+pub(crate) fn bytes(n: usize) -> [u8; HEAD]
+    requires { n < 2 ^ bits byte_widths }
+    ensures { result ≡ unpack byte_widths n }
 {
     let below_first = n % BELOW_FIRST;
     let below_second = below_first % BELOW_SECOND;
     let below_third = below_second % BELOW_THIRD;
-    output[0] = narrow(n / BELOW_FIRST);
-    output[1] = narrow(below_first / BELOW_SECOND);
-    output[2] = narrow(below_second / BELOW_THIRD);
-    output[3] = narrow(below_third / BELOW_FOURTH);
-    output[4] = narrow(below_third % BELOW_FOURTH);
+    [
+        (n / BELOW_FIRST) as u8,
+        (below_first / BELOW_SECOND) as u8,
+        (below_second / BELOW_THIRD) as u8,
+        (below_third / BELOW_FOURTH) as u8,
+        (below_third % BELOW_FOURTH) as u8,
+    ]
 }

@@ -1,8 +1,6 @@
 // Step frames: the reader and the writer.
 #![tactic(auto)]
 
-use state::Refusal;
-
 mod checks;
 mod layout;
 mod reader;
@@ -40,17 +38,4 @@ pub enum Step {
 pub struct Parsed {
     pub consumed: usize,
     pub step: Step,
-}
-
-#[derive(Clone, Copy)]
-pub enum ReadAnswer {
-    Step(Parsed),
-    Refused(Refusal),
-}
-
-#[derive(Clone, Copy)]
-pub enum WriteAnswer {
-    // how many bytes the frame has
-    Written(usize),
-    Refused(Refusal),
 }

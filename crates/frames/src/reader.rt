@@ -1,70 +1,67 @@
 // Reads a frame: the step and the number of bytes that it took up, or a refusal.
-ghost use Rattle.std.specs.Prelude.{◌≡◌, [], ◌∷◌, true, false, ◌≤◌};
+ghost use Rattle.std.specs.Prelude.{◌≡◌, ◌+◌, [], ◌∷◌, false};
+ghost use Rattle.kinds.specs.Table.{number};
 ghost use Rattle.frames.specs.Layout.{head_size};
-ghost use Rattle.kinds.specs.Table.{is_kind};
 ghost use Rattle.frames.specs.Checks.{zero_broken};
 ghost use Rattle.frames.specs.Read.{step_numbers, read_reply, fields_say, read_says, data_of};
 
 use crate::checks::{data_size, zero_broken};
 use crate::layout::{HEAD, Head};
-use crate::{Parsed, ReadAnswer, Step, layout};
-use kinds::allowed;
+use crate::{Parsed, Step, layout};
+use kinds::Kind;
 use state::{CacheState, Refusal};
 
-pub fn read(frame: &[u8]) -> ReadAnswer
+#[tactic(auto, unfolding(crate::specs::Read::read_says, crate::specs::Read::fields_say, state::specs::Verdict::verdict))]
+pub fn read(frame: &[u8]) -> Result<Parsed, Refusal>
     ensures { read_reply result ≡ read_says frame.now }
 {
-    if frame.len() < HEAD {
-        return ReadAnswer::Refused(Refusal::FrameTooShort);
-    }
-    judge(frame.len(), layout::read_head(frame))
+    let (head, behind) = frame
+        .split_first_chunk::<HEAD>()
+        .ok_or(Refusal::FrameTooShort)?;
+    judge(behind.len(), layout::read_head(head))
 }
 
-// What the fields of a frame of `given` bytes say.
-fn judge(given: usize, head: Head) -> ReadAnswer
-    requires { head_size ≤ given }
-    ensures { read_reply result ≡ fields_say given head.kind head.command head.address head.size head.spare }
+// What the fields of a frame with `behind` bytes behind its head say.
+#[tactic(auto, using(kinds::proofs::Table::known, crate::proofs::Sizes::data_at_most), unfolding(crate::specs::Read::fields_say, state::specs::Verdict::verdict))]
+fn judge(behind: usize, head: Head) -> Result<Parsed, Refusal>
+    ensures { read_reply result ≡ fields_say (head_size + behind) head.kind head.command head.address head.size head.spare }
 {
-    let kind = head.kind;
-    let size = head.size;
-    if !allowed(kind) {
-        return ReadAnswer::Refused(Refusal::UnknownKind);
+    let kind = Kind::of(head.kind).ok_or(Refusal::UnknownKind)?;
+    if zero_broken(kind, head.command, head.address, head.size, head.spare) {
+        return Err(Refusal::FieldNotZero);
     }
-    if zero_broken(kind, head.command, head.address, size, head.spare) {
-        return ReadAnswer::Refused(Refusal::FieldNotZero);
+    if head.size > CacheState::TRANSFER {
+        return Err(Refusal::LengthTooLong);
     }
-    if size > CacheState::TRANSFER {
-        return ReadAnswer::Refused(Refusal::LengthTooLong);
+    let follow = data_size(kind, head.size);
+    if behind < follow {
+        return Err(Refusal::DataMismatch);
     }
-    let follow = data_size(kind, size);
-    if given - HEAD < follow {
-        return ReadAnswer::Refused(Refusal::DataMismatch);
-    }
-    ReadAnswer::Step(Parsed {
+    Ok(Parsed {
         consumed: HEAD + follow,
-        step: step_of(head),
+        step: step_of(kind, head),
     })
 }
 
-// The step of a head whose kind is allowed and whose zero fields are zero.
-fn step_of(head: Head) -> Step
-    requires { (is_kind head.kind ≡ true) × (zero_broken head.kind head.command head.address head.size head.spare ≡ false) }
-    ensures { step_numbers result ≡ head.kind ∷ head.command ∷ head.address ∷ head.size ∷ [] }
+// The step of a head whose zero fields are zero.
+#[tactic(auto, unfolding(crate::specs::Checks::zero_broken, crate::specs::Checks::not_zero))]
+fn step_of(kind: Kind, head: Head) -> Step
+    requires { zero_broken (number kind) head.command head.address head.size head.spare ≡ false }
+    ensures { step_numbers result ≡ number kind ∷ head.command ∷ head.address ∷ head.size ∷ [] }
 {
-    let kind = head.kind;
     let command = head.command;
     let address = head.address;
     let size = head.size;
     match kind {
-        0 => Step::Begin { command },
-        1 => Step::Fetch {
+        Kind::Begin => Step::Begin { command },
+        Kind::Fetch => Step::Fetch {
             command,
             address,
             size,
         },
-        2 => Step::End { command },
-        3 => Step::HostWrite { address, size },
-        _ => Step::OwnWrite {
+        Kind::End => Step::End { command },
+        Kind::HostWrite => Step::HostWrite { address, size },
+        Kind::OwnWrite => Step::OwnWrite {
             command,
             address,
             size,
@@ -76,11 +73,5 @@ fn step_of(head: Head) -> Step
 pub fn data(frame: &[u8], consumed: usize) -> &[u8]
     ensures { result.now ≡ data_of frame.now consumed }
 {
-    if consumed < HEAD {
-        return &frame[..0];
-    }
-    if frame.len() < consumed {
-        return &frame[..0];
-    }
-    &frame[HEAD..consumed]
+    frame.get(HEAD..consumed).unwrap_or(&[])
 }

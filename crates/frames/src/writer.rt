@@ -3,11 +3,13 @@ ghost use Rattle.std.specs.Prelude.{◌≡◌, length};
 ghost use Rattle.frames.specs.Write.{write_reply, write_says, write_output};
 
 use crate::checks::{data_size, zero_broken};
+use crate::layout;
 use crate::layout::HEAD;
-use crate::{WriteAnswer, layout};
-use kinds::allowed;
+use kinds::Kind;
 use state::{CacheState, Refusal};
 
+// Replies how many bytes the frame has. The kind is a number of any size, since C hands one.
+#[tactic(auto, unfolding(crate::specs::Write::write_output, state::specs::Verdict::accepted))]
 pub fn write(
     kind: usize,
     command: usize,
@@ -15,20 +17,19 @@ pub fn write(
     size: usize,
     data: &[u8],
     output: &mut [u8],
-) -> WriteAnswer
+) -> Result<usize, Refusal>
     ensures reply { write_reply result ≡ write_says kind command address size (length «data».now) (length output.old) }
     ensures output { output.new ≡ write_output kind command address size «data».now output.old }
 {
-    let answer = judge(kind, command, address, size, data.len(), output.len());
-    let WriteAnswer::Written(_) = answer else {
-        return answer;
-    };
-    layout::write_head(output, layout::packed(kind, command, address, size));
+    let whole = judge(kind, command, address, size, data.len(), output.len())?;
+    let head = layout::bytes(layout::packed(kind, command, address, size));
+    octets::copy_front(output, &head);
     octets::copy_at(output, HEAD, data);
-    answer
+    Ok(whole)
 }
 
 // What is said of a step with `given` bytes of data and an output of `room` bytes.
+#[tactic(auto, using(kinds::proofs::Table::known, crate::proofs::Sizes::data_at_most), unfolding(crate::specs::Write::write_says, state::specs::Verdict::verdict))]
 fn judge(
     kind: usize,
     command: usize,
@@ -36,30 +37,28 @@ fn judge(
     size: usize,
     given: usize,
     room: usize,
-) -> WriteAnswer
+) -> Result<usize, Refusal>
     ensures { write_reply result ≡ write_says kind command address size given room }
 {
-    if !allowed(kind) {
-        return WriteAnswer::Refused(Refusal::UnknownKind);
-    }
+    let kind = Kind::of(kind).ok_or(Refusal::UnknownKind)?;
     if zero_broken(kind, command, address, size, 0) {
-        return WriteAnswer::Refused(Refusal::FieldNotZero);
+        return Err(Refusal::FieldNotZero);
     }
     if size > CacheState::TRANSFER {
-        return WriteAnswer::Refused(Refusal::LengthTooLong);
+        return Err(Refusal::LengthTooLong);
     }
     let follow = data_size(kind, size);
     if given != follow {
-        return WriteAnswer::Refused(Refusal::DataMismatch);
+        return Err(Refusal::DataMismatch);
     }
     if command >= CacheState::COMMANDS {
-        return WriteAnswer::Refused(Refusal::CommandTooHigh);
+        return Err(Refusal::CommandTooHigh);
     }
     if room < HEAD + follow {
-        return WriteAnswer::Refused(Refusal::BufferTooShort);
+        return Err(Refusal::BufferTooShort);
     }
     if address >= CacheState::WINDOW {
-        return WriteAnswer::Refused(Refusal::AddressTooHigh);
+        return Err(Refusal::AddressTooHigh);
     }
-    WriteAnswer::Written(HEAD + follow)
+    Ok(HEAD + follow)
 }

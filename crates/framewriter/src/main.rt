@@ -2,14 +2,11 @@
 #![tactic(auto)]
 
 use console::{Asked, Streams};
-use numbers::one_if;
 use octets::put;
-use scan::Stop;
-use script::{Judged, Judgement};
+use script::{Judged, Lines, TooLong};
 use state::CacheState;
 use std::io::{Read, Write};
 use std::rt::{Env, Files};
-use steps::Framed;
 
 // The most bytes of a journal that fetchlog takes.
 const JOURNAL: usize = 32768;
@@ -61,65 +58,42 @@ fn ask<R: Env + Files, O: Write, E: Write>(rt: &R, streams: &mut Streams<O, E>) 
 
 fn run<R: Read + Drop, O: Write, E: Write>(streams: &mut Streams<O, E>, mut from: R) {
     let mut input = script::room();
-    let reading = console::read_whole(&mut streams.errors, b"framewriter", &mut from, &mut input);
-    if reading.whole {
-        let n = reading.count;
+    if let Ok(n) = console::read_whole(&mut streams.errors, b"framewriter", &mut from, &mut input) {
         write(streams, &input[..n]);
     }
 }
 
 fn write<O: Write, E: Write>(streams: &mut Streams<O, E>, input: &[u8]) {
     match script::judge(&mut streams.errors, b"framewriter", input) {
-        Judgement::TooLong => {
-            console::say_text(
-                &mut streams.errors,
-                b"framewriter: the input is above 1048576 bytes, nothing is written\n",
-            )
-        }
-        Judgement::Lines(judged) => {
-            if 0 < judged.bad {
-                say_bad(&mut streams.errors, input, judged.bad);
-            } else {
-                let kept = write_frames(streams, input);
-                sum_up(&mut streams.errors, judged, kept);
-            }
+        Err(TooLong) => console::say_text(
+            &mut streams.errors,
+            b"framewriter: the input is above 1048576 bytes, nothing is written\n",
+        ),
+        Ok(judged) if 0 < judged.bad => reporting::say_bad(
+            &mut streams.errors,
+            b"framewriter",
+            input,
+            judged.bad,
+            b"framewriter: the input looks like frames; fetchlog runs frames\n",
+            b", nothing is written\n",
+        ),
+        Ok(judged) => {
+            let kept = write_frames(streams, input);
+            sum_up(&mut streams.errors, judged, kept);
         }
     }
 }
 
-fn say_bad<E: Write>(errors: &mut E, input: &[u8], bad: usize) {
-    reporting::say_bad(
-        errors,
-        b"framewriter",
-        input,
-        bad,
-        b"framewriter: the input looks like frames; fetchlog runs frames\n",
-        b", nothing is written\n",
-    );
-}
-
-// What became of a line: whether it had a frame that was written, and whether it had one that could not be.
-#[derive(Drop)]
-struct Written {
-    kept: bool,
-    lost: bool,
-}
-
+// Whether the frame of a line was written, if it has one.
 fn write_frame<O: Write, E: Write>(
     streams: &mut Streams<O, E>,
     line: &[u8],
     buffer: &mut [u8],
     frame: &mut [u8],
-) -> Written {
+) -> Option<bool> {
     match steps::frame_of(line, buffer, frame) {
-        Framed::Frame(size) => {
-            let kept = console::tell_if(streams, true, b"framewriter", frame, size);
-            Written { kept, lost: !kept }
-        }
-        _ => Written {
-            kept: false,
-            lost: false,
-        },
+        Ok(Some(size)) => Some(console::tell_if(streams, true, b"framewriter", frame, size)),
+        _ => None,
     }
 }
 
@@ -128,18 +102,12 @@ fn write_frames<O: Write, E: Write>(streams: &mut Streams<O, E>, input: &[u8]) -
     let mut buffer = [0u8; CacheState::TRANSFER];
     let mut frame = [0u8; script::FRAME];
     let mut kept = 0;
-    let mut at = 0;
-    while at < input.len() {
-        let end = scan::until(input, at, Stop::LineEnd);
-        let written = write_frame(streams, &input[at..end], &mut buffer, &mut frame);
-        kept += one_if(written.kept);
-        if written.lost {
-            return kept;
+    for line in Lines::of(input) {
+        match write_frame(streams, line, &mut buffer, &mut frame) {
+            Some(true) => kept += 1,
+            Some(false) => break,
+            None => {}
         }
-        if input.len() <= end {
-            return kept;
-        }
-        at = end + 1;
     }
     kept
 }

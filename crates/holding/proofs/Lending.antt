@@ -8,7 +8,7 @@ use lib.ListN.{length, take, drop, length-take, take-append-drop}
 use Rattle.state.specs.declared.Record.{Record}
 use Rattle.state.specs.declared.Meeting.{Meeting}
 use Rattle.state.specs.Limits.{command_limit, record_limit, held_limit, transfer_limit, window_limit, command_words}
-use Rattle.state.specs.Records.{total, fresh, joined}
+use Rattle.state.specs.Records.{total, fresh}
 use Rattle.state.specs.State.{State, CommandState, command_of, records_in, with_command, command_holds}
 use Rattle.state.specs.Words.{command_in, state_of}
 use Rattle.state.specs.Join.{Join, join, spliced, replaced, Room, Judged, Joined}
@@ -20,10 +20,12 @@ use Rattle.words.proofs.EntryWords.{entries_size}
 use Rattle.words.proofs.StateWords.{lent, returned, lent_size, lent_command_lem, returned_state}
 use Rattle.store.specs.Store.{part_start, location, packed, from, sees}
 use Rattle.store.specs.Hold.{Fits}
+use Rattle.std.specs.Prelude.{Result, Ok, Err}
+use Rattle.state.specs.declared.refusal.Refusal.{Refusal}
+use Rattle.state.specs.declared.refusal.Refusal.TheVariants.{TooManyBytes, TooManyRecords}
 use Rattle.admission.specs.declared.plan.Finding.{Finding}
-use Rattle.admission.specs.declared.plan.Finding.TheVariants.{Span, Bytes, Records}
 use Rattle.admission.specs.Plan.{Plan, Plans, behind_of, bytes_of}
-use Rattle.holding.specs.Holding.{MayHold, Held, BytesFull, RecordsFull}
+use Rattle.holding.specs.Holding.{MayHold, Held, BytesFull, RecordsFull, Holds}
 
 -- what hold and splice are given: the command that is lent
 abbrev pub lent_command : (words : List ℕ) (c : ℕ) → CommandState
@@ -99,21 +101,27 @@ module _ (words store : List ℕ) (c a n base : ℕ) (source : List ℕ) (M : Ma
   bytes_are = omega (arith, sum, judged.fresh)
 
   -- what the search gave is told of the command
-  plans : (f : Finding) → Plans (lent_command words c) a n f → Plans p a n f
+  plans : (f : Result Finding Refusal) → Plans (lent_command words c) a n f → Plans p a n f
   plans f found = subst (λ (q : CommandState). Plans q a n f) own found
 
-  pub bytes_full_lem : Plans (lent_command words c) a n Bytes → BytesFull words store c a n words store
-  bytes_full_lem found = record { many = omega (arith, plans Bytes found, bytes_are); same_words = refl; same_store = refl }
-
-  pub records_full_lem : Plans (lent_command words c) a n Records → RecordsFull words store c a n words store
-  records_full_lem found =
-      let h = plans Records found in
+  -- refused, nothing has changed
+  pub full : (why : Refusal) → Plans (lent_command words c) a n (Err why) → Holds words store c a n base source (Err why) words store
+  full TooManyBytes found = record { many = omega (arith, plans (Err TooManyBytes) found, bytes_are); same_words = refl; same_store = refl }
+  full TooManyRecords found =
+      let h = plans (Err TooManyRecords) found in
       record { bytes = omega (arith, h.bytes, bytes_are); many = omega (arith, h.many, judged.count); same_words = refl; same_store = refl }
+  full _ found = absurd found
+
+  pub bytes_full_lem : Plans (lent_command words c) a n (Err TooManyBytes) → BytesFull words store c a n words store
+  bytes_full_lem = full TooManyBytes
+
+  pub records_full_lem : Plans (lent_command words c) a n (Err TooManyRecords) → RecordsFull words store c a n words store
+  records_full_lem = full TooManyRecords
 
   -- there is room
-  module _ (m : Meeting) (new at rest look : ℕ) (found : Plans (lent_command words c) a n (Span m new at rest look)) where
+  module _ (m : Meeting) (new at rest look : ℕ) (found : Plans (lent_command words c) a n (Ok (record { m = m; fresh = new; place = at; behind = rest; looked = look }))) where
     P : Plan p j m new at rest look
-    P = plans (Span m new at rest look) found
+    P = plans (Ok (record { m = m; fresh = new; place = at; behind = rest; looked = look })) found
 
     R : Room p a n
     R = record {

@@ -1,12 +1,13 @@
 -- A span comes to be held, as the code does it for a fetch and for an own write: what is asked, and what it leaves of words and store.
-use Rattle.std.specs.Prelude.{ℕ, ◌+◌, ◌≤◌, ◌<◌, ◌≡◌, List, true, length}
+use Rattle.std.specs.Prelude.{ℕ, ◌+◌, ◌≤◌, ◌<◌, ◌≡◌, List, true, length, Result, Ok, Err}
 use Rattle.state.specs.Limits.{command_limit, record_limit, held_limit, transfer_limit, window_limit, store_size, state_words}
 use Rattle.state.specs.Records.{place, total, fresh, joined, looked}
 use Rattle.state.specs.State.{records_of, is_open, open_with, with_command, holds}
 use Rattle.state.specs.Words.{state_of}
 use Rattle.store.specs.Store.{location, packed, from, sees}
+use Rattle.state.specs.declared.refusal.Refusal.{Refusal}
+use Rattle.state.specs.declared.refusal.Refusal.TheVariants.{TooManyBytes, TooManyRecords}
 use Rattle.holding.specs.declared.Holding.{Holding}
-use Rattle.holding.specs.declared.Holding.TheVariants.{Span, Bytes, Records}
 
 -- what the checks up to 21 have seen to, and that the source of the bytes, whose first has the address `base`, has the span
 pub record MayHold (words : List ℕ) (store_len c a n base source_len : ℕ) : Type 0 where
@@ -47,7 +48,9 @@ pub record RecordsFull (words store : List ℕ) (c a n : ℕ) (words' store' : L
   pub same_words : words' ≡ words
   pub same_store : store' ≡ store
 
-abbrev pub Holds : (words store : List ℕ) (c a n base : ℕ) (source : List ℕ) → Holding → (words' store' : List ℕ) → Type 0
-Holds words store c a n base source (Span new at look) words' store' = Held words store c a n base source new at look words' store'
-Holds words store c a n base source Bytes words' store' = BytesFull words store c a n words' store'
-Holds words store c a n base source Records words' store' = RecordsFull words store c a n words' store'
+-- 23 and 24 are the only refusals
+abbrev pub Holds : (words store : List ℕ) (c a n base : ℕ) (source : List ℕ) → Result Holding Refusal → (words' store' : List ℕ) → Type 0
+Holds words store c a n base source (Ok h) words' store' = Held words store c a n base source h.fresh h.place h.looked words' store'
+Holds words store c a n base source (Err TooManyBytes) words' store' = BytesFull words store c a n words' store'
+Holds words store c a n base source (Err TooManyRecords) words' store' = RecordsFull words store c a n words' store'
+Holds words store c a n base source (Err _) words' store' = ⊥

@@ -6,66 +6,49 @@
 ghost use Rattle.std.specs.Prelude.{length};
 ghost use Rattle.holding.specs.Holding.{MayHold, Holds};
 
-use admission::plan::{Finding, planned};
+use admission::plan::planned;
 use join::splice::splice;
-use state::CacheState;
+use state::{CacheState, Refusal};
 use store::part;
 
-#[derive(Drop)]
-pub enum Holding {
-    // how many addresses of the span were not held before, where its first byte stands among the packed bytes, and how many records were looked
-    // at
-    Span {
-        fresh: usize,
-        place: usize,
-        looked: usize,
-    },
-    Bytes,
-    Records,
+// How many addresses of the span were not held before, where its first byte stands among the packed bytes, and how many records were looked at.
+#[derive(Clone, Copy)]
+pub struct Holding {
+    pub fresh: usize,
+    pub place: usize,
+    pub looked: usize,
 }
 
 // The source's first byte has the address `base`.
 pub fn hold_span(
-    state: &mut [u16],
+    state: &mut [u16; CacheState::WORDS],
     store: &mut [u8],
     source: &[u8],
     base: usize,
     command: usize,
     address: usize,
     size: usize,
-) -> Holding
+) -> Result<Holding, Refusal>
     requires { MayHold state.old (length store.old) command address size base (length source.now) }
     ensures { Holds state.old store.old command address size base source.now result state.new store.new }
 {
     let low = CacheState::COMMAND_WORDS * command;
-    let high = low + CacheState::COMMAND_WORDS;
-    let plan = planned(&state[low..high], address, size);
-    match plan {
-        Finding::Bytes => Holding::Bytes,
-        Finding::Records => Holding::Records,
-        Finding::Span {
-            m,
-            fresh,
-            place,
-            behind,
-            looked,
-        } => {
-            part::hold(
-                store,
-                command,
-                source,
-                base,
-                &state[low..high],
-                m,
-                fresh,
-                behind,
-            );
-            splice(&mut state[low..high], m);
-            Holding::Span {
-                fresh,
-                place,
-                looked,
-            }
-        }
-    }
+    let own = &state[low..low + CacheState::COMMAND_WORDS];
+    let plan = planned(own, address, size)?;
+    part::hold(
+        store,
+        command,
+        source,
+        base,
+        own,
+        plan.m,
+        plan.fresh,
+        plan.behind,
+    );
+    splice(&mut state[low..low + CacheState::COMMAND_WORDS], plan.m);
+    Ok(Holding {
+        fresh: plan.fresh,
+        place: plan.place,
+        looked: plan.looked,
+    })
 }

@@ -3,21 +3,14 @@
 
 ghost use Rattle.std.specs.Prelude.{◌≡◌, ◌<◌, ◌≤◌, ◌&&◌, length, drop, nat_le, nat_lt};
 ghost use Rattle.octets.specs.Lists.{all, all_zero};
-ghost use Rattle.state.specs.Limits.{record_limit, held_limit, command_words, state_words};
+ghost use Rattle.state.specs.Limits.{record_limit, held_limit, command_words};
 ghost use Rattle.state.specs.Records.{total};
 ghost use Rattle.state.specs.State.{records_in, ascending, is_zero, command_holds, holds};
 ghost use Rattle.state.specs.Words.{entries_in, command_in, state_of};
 ghost use Rattle.integrity.specs.Holds.{is_faultless, Walking, Walked};
 
 use state::{CacheState, Record};
-use words::entries::{entry, wide};
-
-// A word in 32 bits, for a loop that is to look at several words in one instruction.
-fn wide32(x: u16) -> u32
-    ensures { (result ≡ x) × (result < 65536) }
-{
-    x as u32
-}
+use words::entries::entry;
 
 // A number below 2^31 if a record starts at `low` or behind it and is not empty, and else one from there on, since a difference below
 // zero wraps round.
@@ -25,7 +18,7 @@ fn fault(low: u32, start: u32, len: u32) -> u32
     requires { (low ≤ 131072) × (start < 65536) × (len < 65536) }
     ensures { is_faultless result ≡ (nat_le low start && nat_lt 0 len) }
 {
-    std::num::wrapping_sub_u32(start, low) | std::num::wrapping_sub_u32(len, 1)
+    start.wrapping_sub(low) | len.wrapping_sub(1)
 }
 
 // How far a walk over the records has come: the faults of those behind it, joined by a bitwise or, the lowest address at which the next may
@@ -41,8 +34,8 @@ fn walked(w: Walk, r: Record) -> Walk
     requires { Walking w 64 }
     ensures { Walked w r result }
 {
-    let start = wide32(r.start);
-    let len = wide32(r.len);
+    let start = u32::from(r.start);
+    let len = u32::from(r.len);
     Walk {
         faults: w.faults | fault(w.low, start, len),
         low: start + len + 1,
@@ -62,10 +55,8 @@ fn records_hold(words: &[u16], n: usize) -> bool
         low: 0,
         sum: 0,
     };
-    let mut i = 0;
-    while i < n {
+    for i in 0..n {
         w = walked(w, entry(words, i));
-        i = i + 1;
     }
     if 2147483648 <= w.faults {
         return false;
@@ -81,13 +72,7 @@ fn records_hold(words: &[u16], n: usize) -> bool
 fn all_zero(words: &[u16]) -> bool
     ensures { result ≡ all_zero words.now }
 {
-    let mut or: u16 = 0;
-    let mut i = 0;
-    while i < words.len() {
-        or = or | words[i];
-        i = i + 1;
-    }
-    or == 0
+    words.iter().fold(0, |or, word| or | word) == 0
 }
 
 // Whether the entries from `from` on are zero.
@@ -103,7 +88,7 @@ fn command_holds(words: &[u16]) -> bool
     requires { length words.now ≡ command_words }
     ensures { result ≡ command_holds (command_in words.now) }
 {
-    let word = wide(words[0]);
+    let word = usize::from(words[0]);
     if word <= 1 {
         return unused_zero(words, 0);
     }
@@ -118,17 +103,14 @@ fn command_holds(words: &[u16]) -> bool
 }
 
 // Whether every command does.
-pub fn holds(state: &[u16]) -> bool
-    requires { length state.now ≡ state_words }
+pub fn holds(state: &[u16; CacheState::WORDS]) -> bool
     ensures { result ≡ holds (state_of state.now) }
 {
-    let mut c = 0;
-    while c < CacheState::COMMANDS {
+    for c in 0..CacheState::COMMANDS {
         let low = CacheState::COMMAND_WORDS * c;
         if !command_holds(&state[low..low + CacheState::COMMAND_WORDS]) {
             return false;
         }
-        c = c + 1;
     }
     true
 }

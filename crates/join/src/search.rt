@@ -7,7 +7,7 @@ ghost use Rattle.join.specs.Search.{Searches};
 ghost use Rattle.state.specs.Words.{command_in};
 
 use state::{Meeting, Record};
-use words::entries::{entry, used, wide};
+use words::entries::{entry, used};
 
 // How the span lies among the records, and how many of them were looked at.
 #[derive(Drop)]
@@ -21,8 +21,8 @@ fn pass(m: Meeting, r: Record, address: usize) -> Meeting
     requires { Counted m 63 }
     ensures { Passed m r address result }
 {
-    let start = wide(r.start);
-    let len = wide(r.len);
+    let start = usize::from(r.start);
+    let len = usize::from(r.len);
     let past = start + len;
     if past < address {
         return Meeting {
@@ -37,8 +37,8 @@ fn pass(m: Meeting, r: Record, address: usize) -> Meeting
     Meeting {
         first: m.first,
         last: m.last + 1,
-        low: numbers::lesser(start, m.low),
-        high: numbers::greater(past, m.high),
+        low: start.min(m.low),
+        high: past.max(m.high),
         below: m.below,
         held: m.held + len,
     }
@@ -58,17 +58,15 @@ pub fn search(words: &[u16], address: usize, end: usize) -> Searched
         below: 0,
         held: 0,
     };
-    let mut i = 0;
-    while i < n {
+    for i in 0..n {
         let r = entry(words, i);
-        if end < wide(r.start) {
+        if end < usize::from(r.start) {
             return Searched {
                 met: m,
                 looked: i + 1,
             };
         }
         m = pass(m, r, address);
-        i = i + 1;
     }
-    Searched { met: m, looked: i }
+    Searched { met: m, looked: n }
 }

@@ -34,7 +34,7 @@ fn put(words: &mut [u16], k: usize, r: Record)
 fn union(m: Meeting) -> Record
     ensures { result ≡ union_of m }
 {
-    let size = numbers::minus(m.high, m.low);
+    let size = m.high.saturating_sub(m.low);
     Record {
         start: (m.low % 65536) as u16,
         len: (size % 65536) as u16,
@@ -46,11 +46,9 @@ fn move_up(words: &mut [u16], first: usize, used: usize)
     requires { (length words.old ≡ command_words) × (first ≤ used) × (used < record_limit) }
     ensures { MovedUp words.old first used words.new }
 {
-    let mut k = used;
-    while first < k {
-        let r = entry(words, k - 1);
-        put(words, k, r);
-        k = k - 1;
+    for k in (first..used).rev() {
+        let r = entry(words, k);
+        put(words, k + 1, r);
     }
 }
 
@@ -59,13 +57,9 @@ fn move_down(words: &mut [u16], to: usize, from: usize, end: usize)
     requires { (length words.old ≡ command_words) × (to ≤ from) × (to ≤ end) × (from ≤ record_limit) × (end ≤ record_limit) }
     ensures { MovedDown words.old to from end words.new }
 {
-    let mut k = to;
-    let mut at = from;
-    while k < end {
-        let r = entry_or_none(words, at);
+    for k in to..end {
+        let r = entry_or_none(words, from + (k - to));
         put(words, k, r);
-        k = k + 1;
-        at = at + 1;
     }
 }
 
@@ -96,7 +90,7 @@ pub fn splice(words: &mut [u16], m: Meeting)
         seal(words, m, count);
         return;
     }
-    let end = numbers::lesser(n + 1, CacheState::RECORDS);
+    let end = (n + 1).min(CacheState::RECORDS);
     move_down(words, first + 1, last, end);
     seal(words, m, count);
 }

@@ -7,8 +7,8 @@ use mathlib.Core.Path.{◌≡◌, refl, ap, sym, subst, ◌∙◌}
 use mathlib.Core.List.{List, [], ◌∷◌, ◌++◌, append-nil, append_assoc}
 use mathlib.Core.Bool.{Bool, true, false, false≢true, not, cond}
 use mathlib.Core.Logic.{◌≢◌}
-use lib.ListN.{length, drop, get_or, length-drop, drop_of_length-le}
-use lib.Seq.{drop-drop}
+use lib.ListN.{length, drop, get_or, length-drop}
+use Rattle.std.specs.Int.{from_bool}
 use Rattle.state.specs.Verdict.{Reply, refused, replied, accepted, numbers_of}
 use Rattle.frames.specs.Read.{read_says}
 use Rattle.frames.specs.Layout.{fields_of}
@@ -103,30 +103,28 @@ module _ (k : ℕ) (d : Device) where
   left_unread [] h e = absurd (not-suc-le-zero h)
   left_unread (x ∷ xs) h e = rw (left_in, e)
 
--- The loop of `replay`: `number` frames are done, up to place `at` of the input, and the log of those is put
+-- The loop of `replay`: `number` frames are done, `rest` is left of the input behind them, and the log of those is put
 
 module _ (d₀ : Device) (input out₀ : List ℕ) where
-  abbrev rest_of : (number at : ℕ) → Device → List Entry
-  rest_of number at d = entries_in (length input - number) d (drop at input)
+  abbrev left_of : (number : ℕ) → Device → (rest : List ℕ) → List Entry
+  left_of number d rest = entries_in (length input - number) d rest
 
-  pub record Running (at number written carried : ℕ) (d : Device) (out : List ℕ) : Type 0 where
-    pub inside : at ≤ length input
-    pub few : number ≤ at
+  pub record Running (number written carried : ℕ) (d : Device) (rest out : List ℕ) : Type 0 where
+    pub few : number + length rest ≤ length input
     pub some : carried ≤ number
     pub told : List ℕ
     pub put : Puts out₀ 0 told written out
-    pub text : told ++ log_from (suc number) (rest_of number at d) ≡ log_from 1 (entries d₀ input)
-    pub left : left_in (length input - number) d (drop at input) ≡ journal_leaves d₀ input
-    pub goods : carried + count was_carried (rest_of number at d) ≡ count was_carried (entries d₀ input)
-    pub bads : number - carried + count was_refused (rest_of number at d) ≡ count was_refused (entries d₀ input)
-    pub early : ends_early (rest_of number at d) ≡ ends_early (entries d₀ input)
+    pub text : told ++ log_from (suc number) (left_of number d rest) ≡ log_from 1 (entries d₀ input)
+    pub left : left_in (length input - number) d rest ≡ journal_leaves d₀ input
+    pub goods : carried + count was_carried (left_of number d rest) ≡ count was_carried (entries d₀ input)
+    pub bads : number - carried + count was_refused (left_of number d rest) ≡ count was_refused (entries d₀ input)
+    pub early : ends_early (left_of number d rest) ≡ ends_early (entries d₀ input)
 
-  full : rest_of 0 0 d₀ ≡ entries d₀ input
+  full : left_of 0 d₀ input ≡ entries d₀ input
   full = ap (λ (k : ℕ). entries_in k d₀ input) (sub-zero (length input))
 
-  pub running_start : Running 0 0 0 0 d₀ out₀
+  pub running_start : Running 0 0 0 d₀ input out₀
   running_start = record {
-    inside = omega arith;
     few = omega arith;
     some = omega arith;
     told = [];
@@ -138,17 +136,10 @@ module _ (d₀ : Device) (input out₀ : List ℕ) where
     early = ap ends_early full;
   }
 
-  module _ (at number written carried : ℕ) (d : Device) (out : List ℕ) (R : Running at number written carried d out) where
+  module _ (number written carried : ℕ) (d : Device) (frame out : List ℕ) (R : Running number written carried d frame out) where
     -- a frame more
-    module _ (inside : at < length input) (next : ℕ) (out' : List ℕ)
-        (line : Puts out written (line_of (number + 1) (letter_of (drop at input)) (frame_says d (drop at input)) (frame_delivers d (drop at input)))
-        next out') where
-      abbrev frame : List ℕ
-      frame = drop at input
-
-      some_bytes : 0 < length frame
-      some_bytes = simp length-drop (omega arith)
-
+    module _ (some_bytes : 0 < length frame) (next : ℕ) (out' : List ℕ)
+        (line : Puts out written (line_of (number + 1) (letter_of frame) (frame_says d frame) (frame_delivers d frame)) next out') where
       steps : length input - number ≡ suc (length input - (number + 1))
       steps = omega (arith, R.few)
 
@@ -157,17 +148,13 @@ module _ (d₀ : Device) (input out₀ : List ℕ) where
 
       module _ (e : is_readable frame ≡ true) where
         abbrev rest : List Entry
-        rest = rest_of (number + 1) (at + taken_up frame) (frame_leaves d frame)
+        rest = left_of (number + 1) (frame_leaves d frame) (drop (taken_up frame) frame)
 
-        rest_is : rest_of number at d ≡ entry_of d frame ∷ rest
-        rest_is =
-            ap (λ (k : ℕ). entries_in k d frame) steps ∙ entries_read (length input - (number + 1)) d frame some_bytes e
-            ∙ ap (λ (l : List ℕ). entry_of d frame ∷ entries_in (length input - (number + 1)) (frame_leaves d frame) l) (drop-drop (taken_up frame) at input)
+        rest_is : left_of number d frame ≡ entry_of d frame ∷ rest
+        rest_is = ap (λ (k : ℕ). entries_in k d frame) steps ∙ entries_read (length input - (number + 1)) d frame some_bytes e
 
-        left_is : left_in (length input - number) d frame ≡ left_in (length input - (number + 1)) (frame_leaves d frame) (drop (at + taken_up frame) input)
-        left_is =
-            ap (λ (k : ℕ). left_in k d frame) steps ∙ left_read (length input - (number + 1)) d frame some_bytes e
-            ∙ ap (left_in (length input - (number + 1)) (frame_leaves d frame)) (drop-drop (taken_up frame) at input)
+        left_is : left_in (length input - number) d frame ≡ left_in (length input - (number + 1)) (frame_leaves d frame) (drop (taken_up frame) frame)
+        left_is = ap (λ (k : ℕ). left_in k d frame) steps ∙ left_read (length input - (number + 1)) d frame some_bytes e
 
         goods_are : count was_carried (entry_of d frame ∷ rest) ≡ cond (accepted (frame_says d frame)) 1 0 + count was_carried rest
         unfolding count
@@ -193,14 +180,17 @@ module _ (d₀ : Device) (input out₀ : List ℕ) where
         one_most true = omega arith
         one_most false = omega arith
 
+        as_number : (b : Bool) → from_bool b ≡ cond b 1 0
+        as_number true = refl
+        as_number false = refl
+
         turned : (carried' : ℕ) → carried' ≡ carried + cond (accepted (frame_says d frame)) 1 0
-            → Running (at + taken_up frame) (number + 1) next carried' (frame_leaves d frame) out'
+            → Running (number + 1) next carried' (frame_leaves d frame) (drop (taken_up frame) frame) out'
         turned carried' is =
             let T = taken_read frame e in
             let ok : ℕ = cond (accepted (frame_says d frame)) 1 0 in
             record {
-              inside = omega (arith, T.there, length-drop at input);
-              few = omega (arith, T.some, R.few);
+              few = omega (arith, length-drop (taken_up frame) frame, T.some, T.there, R.few);
               some = omega (arith, R.some, one_most (accepted (frame_says d frame)));
               told = R.told ++ text;
               put = puts_both R.put line;
@@ -215,15 +205,18 @@ module _ (d₀ : Device) (input out₀ : List ℕ) where
 
         -- in the words of the code
         pub running_turn :
-            {taken carried' : ℕ} {d' : Device} → taken ≡ taken_up frame → carried' ≡ carried + cond (accepted (frame_says d frame)) 1 0
-            → d' ≡ frame_leaves d frame → Running (at + taken) (number + 1) next carried' d' out'
-        running_turn {taken} {carried'} {d'} is count left =
-            subst (λ (k : ℕ). Running (at + k) (number + 1) next carried' d' out') (sym is)
-            (subst (λ (x : Device). Running (at + taken_up frame) (number + 1) next carried' x out') (sym left) (turned carried' count))
+            {taken one : ℕ} {ok : Bool} {d' : Device} {behind : List ℕ} → taken ≡ taken_up frame → ok ≡ accepted (frame_says d frame)
+            → one ≡ from_bool ok → d' ≡ frame_leaves d frame → behind ≡ drop taken frame → Running (number + 1) next (carried + one) d' behind out'
+        running_turn {taken} {one} {ok} {d'} {behind} is ok_is counts leaves behind_is =
+            let count = counts ∙ ap from_bool ok_is ∙ as_number (accepted (frame_says d frame)) in
+            let where_left = behind_is ∙ ap (λ (k : ℕ). drop k frame) is in
+            subst (λ (l : List ℕ). Running (number + 1) next (carried + one) d' l out') (sym where_left)
+            (subst (λ (x : Device). Running (number + 1) next (carried + one) x (drop (taken_up frame) frame) out') (sym leaves)
+            (turned (carried + one) (ap (λ (n : ℕ). carried + n) count)))
 
       -- an unreadable one, which ends the run
       module _ (e : is_readable frame ≡ false) where
-        last_is : rest_of number at d ≡ entry_of d frame ∷ []
+        last_is : left_of number d frame ≡ entry_of d frame ∷ []
         last_is = ap (λ (k : ℕ). entries_in k d frame) steps ∙ entries_unread (length input - (number + 1)) d frame some_bytes e
 
         last_text : log_from (suc number) (entry_of d frame ∷ []) ≡ text
@@ -277,16 +270,16 @@ module _ (d₀ : Device) (input out₀ : List ℕ) where
         }
 
     -- no byte is left
-    module _ (past : length input ≤ at) where
-      none : rest_of number at d ≡ []
-      none = ap (entries_in (length input - number) d) (drop_of_length-le input {i = at} past) ∙ entries_none 0 d (length input - number)
+    module _ (past : frame ≡ []) where
+      none : left_of number d frame ≡ []
+      none = ap (entries_in (length input - number) d) past ∙ entries_none 0 d (length input - number)
 
       all_log : Puts out₀ 0 (log_from 1 (entries d₀ input)) written out
       unfolding log_from
       all_log = puts_is R.put (sym (append-nil R.told) ∙ ap (λ (l : List Entry). R.told ++ log_from (suc number) l) (sym none) ∙ R.text)
 
       all_leaves : d ≡ journal_leaves d₀ input
-      all_leaves = sym (ap (left_in (length input - number) d) (drop_of_length-le input {i = at} past) ∙ left_none 0 d (length input - number)) ∙ R.left
+      all_leaves = sym (ap (left_in (length input - number) d) past ∙ left_none 0 d (length input - number)) ∙ R.left
 
       no_count : (test : Entry → Bool) → count test [] ≡ 0
       unfolding count

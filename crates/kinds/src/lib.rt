@@ -1,55 +1,110 @@
-// The table of kinds of steps, a constant for each of its columns, indexed by kind.
+// The kinds of steps, and what the table says of each: its letter, which fields must be zero, and whether data follow.
 #![tactic(auto)]
 
-ghost use Rattle.std.specs.Prelude.{◌≡◌};
-ghost use Rattle.kinds.specs.Table.{is_kind, kind_of};
+ghost use Rattle.std.specs.Prelude.{◌≡◌, false, MatchOption};
+ghost use Rattle.kinds.specs.Table.{is_kind, kind_of, number};
 
-const KINDS: usize = 8;
+// A kind's number is its place in the table.
+#[derive(Clone, Copy, PartialEq, Eq)]
+pub enum Kind {
+    Begin = 0,
+    Fetch = 1,
+    End = 2,
+    HostWrite = 3,
+    OwnWrite = 4,
+}
 
-const LETTER: [u8; KINDS] = [b'B', b'F', b'E', b'H', b'W', 0, 0, 0];
+impl Kind {
+    // In the order of the table.
+    pub const ALL: [Kind; 5] = [
+        Kind::Begin,
+        Kind::Fetch,
+        Kind::End,
+        Kind::HostWrite,
+        Kind::OwnWrite,
+    ];
 
-const ALLOWED: [bool; KINDS] = [true, true, true, true, true, false, false, false];
+    // The kind with a number, if the table allows it.
+    pub fn of(place: usize) -> Option<Kind>
+        ensures { MatchOption result (is_kind place ≡ false) (λ kind. number kind ≡ place) }
+    {
+        match place {
+            0 => Some(Kind::Begin),
+            1 => Some(Kind::Fetch),
+            2 => Some(Kind::End),
+            3 => Some(Kind::HostWrite),
+            4 => Some(Kind::OwnWrite),
+            _ => None,
+        }
+    }
 
-const COMMAND_ZERO: [bool; KINDS] = [false, false, false, true, false, false, false, false];
+    pub fn number(self) -> usize
+        ensures { result ≡ number self }
+    {
+        self as usize
+    }
 
-const SPAN_ZERO: [bool; KINDS] = [true, false, true, false, false, false, false, false];
+    pub fn letter(self) -> u8
+        ensures { result ≡ (kind_of (number self)).letter }
+    {
+        match self {
+            Kind::Begin => b'B',
+            Kind::Fetch => b'F',
+            Kind::End => b'E',
+            Kind::HostWrite => b'H',
+            Kind::OwnWrite => b'W',
+        }
+    }
 
-const HAS_DATA: [bool; KINDS] = [false, false, false, true, true, false, false, false];
+    // Must the command be zero?
+    pub fn command_zero(self) -> bool
+        ensures { result ≡ (kind_of (number self)).command_zero }
+    {
+        matches!(self, Kind::HostWrite)
+    }
 
-// The letter of a kind, and 0 where it has none.
+    // Must the address and the length be zero?
+    pub fn span_zero(self) -> bool
+        ensures { result ≡ (kind_of (number self)).span_zero }
+    {
+        matches!(self, Kind::Begin | Kind::End)
+    }
+
+    pub fn has_data(self) -> bool
+        ensures { result ≡ (kind_of (number self)).has_data }
+    {
+        matches!(self, Kind::HostWrite | Kind::OwnWrite)
+    }
+}
+
+// The letter of the kind with a number, and 0 where there is none. This and the next four answer for any number, as the definitions do.
 pub fn letter(kind: usize) -> u8
     ensures { result ≡ (kind_of kind).letter }
 {
-    if kind < KINDS { LETTER[kind] } else { 0 }
+    Kind::of(kind).map_or(0, Kind::letter)
 }
 
 // Has the kind a row?
 pub fn allowed(kind: usize) -> bool
     ensures { result ≡ is_kind kind }
 {
-    if kind < KINDS { ALLOWED[kind] } else { false }
+    Kind::of(kind).is_some()
 }
 
-// Must the command be zero?
 pub fn command_zero(kind: usize) -> bool
     ensures { result ≡ (kind_of kind).command_zero }
 {
-    if kind < KINDS {
-        COMMAND_ZERO[kind]
-    } else {
-        false
-    }
+    Kind::of(kind).is_some_and(Kind::command_zero)
 }
 
-// Must the address and the length be zero?
 pub fn span_zero(kind: usize) -> bool
     ensures { result ≡ (kind_of kind).span_zero }
 {
-    if kind < KINDS { SPAN_ZERO[kind] } else { false }
+    Kind::of(kind).is_some_and(Kind::span_zero)
 }
 
 pub fn has_data(kind: usize) -> bool
     ensures { result ≡ (kind_of kind).has_data }
 {
-    if kind < KINDS { HAS_DATA[kind] } else { false }
+    Kind::of(kind).is_some_and(Kind::has_data)
 }

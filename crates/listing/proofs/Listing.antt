@@ -4,12 +4,12 @@ use native.Mathlib.Omega.{arith}
 use mathlib.Core.Path.{◌≡◌, refl, ap, sym, ◌∙◌}
 use mathlib.Core.List.{List, [], ◌∷◌, map, append-nil}
 use mathlib.Core.Bool.{Bool, true, false, false≢true}
+use Rattle.std.specs.Prelude.{Result, Ok, Err}
 use lib.ListN.{length, take, replicate, length-replicate, length-map, length-take}
 use lib.Seq.{drop-length, take_all}
 use Rattle.octets.specs.Lists.{overwrite}
 use Rattle.state.specs.declared.refusal.Refusal.{Refusal}
-use Rattle.state.specs.declared.answer.FetchAnswer.{FetchAnswer}
-use Rattle.state.specs.declared.answer.FetchAnswer.TheVariants.{Done, Refused}
+use Rattle.state.specs.declared.answer.FetchCounts.{FetchCounts}
 use Rattle.state.specs.Answers.{fetch_reply}
 use Rattle.state.specs.Limits.{record_limit}
 use Rattle.state.specs.Records.{span, looked}
@@ -27,8 +27,6 @@ use Rattle.cache.proofs.Accepted.{fetched, fetched_reply}
 use Rattle.fetch.specs.Fetch.{Fetches}
 use Rattle.prp.specs.Pages.{page_size}
 use Rattle.prp.specs.Entries.{entries_in, wrong_multiple, judged, ◌then◌, list_fetch}
-use Rattle.listing.specs.declared.Gathered.{Gathered}
-use Rattle.listing.specs.declared.Gathered.TheVariants.{Entries, Refused as NotGathered}
 use Rattle.listing.specs.Page.{gathered_reply, looked_by, ListsPage}
 
 -- a buffer written over whole
@@ -38,10 +36,10 @@ written_over buffer bytes e =
     rw (all, drop-length buffer) (append-nil bytes)
 
 -- gathered or not, no more was looked at than the fetch says
-looked_within : (v : Gathered) (look : ℕ) → (accepted (gathered_reply v) ≡ true → looked_by v ≡ look) → look ≤ record_limit → looked_by v ≤ record_limit
+looked_within : (v : Result ℕ Refusal) (look : ℕ) → (accepted (gathered_reply v) ≡ true → looked_by v ≡ look) → look ≤ record_limit → looked_by v ≤ record_limit
 unfolding accepted
-looked_within (Entries n) look counted h = omega (arith, counted refl)
-looked_within (NotGathered why) look counted h = omega arith
+looked_within (Ok n) look counted h = omega (arith, counted refl)
+looked_within (Err why) look counted h = omega arith
 
 module _ (words store window dest : List ℕ) (c a k : ℕ) (sized : length dest ≡ 8 * k) where
   abbrev s : State
@@ -95,14 +93,14 @@ module _ (words store window dest : List ℕ) (c a k : ℕ) (sized : length dest
   abbrev entries_say : List ℕ → Reply
   entries_say l = judged (map (wrong_multiple page_size) (entries_in k l))
 
-  module _ (words' store' dest' : List ℕ) (r : FetchAnswer) (F : Fetches words store window dest c a (8 * k) r words' store' dest') where
+  module _ (words' store' dest' : List ℕ) (r : Result FetchCounts Refusal) (F : Fetches words store window dest c a (8 * k) r words' store' dest') where
     left : given words' store' ≡ after m p
     left = λ i. record { state = (F.state ∙ state_same) i; store = (F.bytes ∙ store_same) i }
 
     got : accepted (says m p) ≡ true → dest' ≡ delivers m p
     got taken = F.delivered ∙ dest_is taken ∙ sym (delivers_is taken)
 
-    pub refused_page : (why : Refusal) → r ≡ Refused why → ListsPage words store window c a k (NotGathered why) words' store' dest'
+    pub refused_page : (why : Refusal) → r ≡ Err why → ListsPage words store window c a k (Err why) words' store' dest'
     unfolding accepted
     refused_page why is =
         let said : says m p ≡ refused (number why) = sym says_same ∙ sym F.answer ∙ ap fetch_reply is in
@@ -130,19 +128,19 @@ module _ (words store window dest : List ℕ) (c a k : ℕ) (sized : length dest
         )
 
     pub judged_page :
-        (fresh replayed look : ℕ) (v : Gathered) → r ≡ Done fresh replayed look
-        → gathered_reply v ≡ entries_say dest' → (accepted (gathered_reply v) ≡ true → looked_by v ≡ look)
+        (counts : FetchCounts) (v : Result ℕ Refusal) → r ≡ Ok counts
+        → gathered_reply v ≡ entries_say dest' → (accepted (gathered_reply v) ≡ true → looked_by v ≡ counts.looked)
         → ListsPage words store window c a k v words' store' dest'
     unfolding accepted
-    judged_page fresh replayed look v is judgement counted =
-        let said : says m p ≡ replied (fresh ∷ replayed ∷ look ∷ []) = sym says_same ∙ sym F.answer ∙ ap fetch_reply is in
+    judged_page counts v is judgement counted =
+        let said : says m p ≡ replied (counts.fresh ∷ counts.replayed ∷ counts.looked ∷ []) = sym says_same ∙ sym F.answer ∙ ap fetch_reply is in
         let taken : accepted (says m p) ≡ true = ap accepted said in
-        let number : looked_in (says m p) ≡ look = ap looked_in said in
+        let number : looked_in (says m p) ≡ counts.looked = ap looked_in said in
         record {
           answer = judgement ∙ ap entries_say (got taken) ∙ sym (ap (λ (q : Reply). q then entries_say (delivers m p)) said);
           machine = left;
           bytes = got;
           sized = ap length F.delivered ∙ dest_sized;
           looked = λ e. counted e ∙ sym number;
-          few = looked_within v look counted (omega (arith, number, looked_few taken));
+          few = looked_within v counts.looked counted (omega (arith, number, looked_few taken));
         }

@@ -1,12 +1,13 @@
 -- The lists behind PRP2, from what is known of their pages: PRP2 is wrong, there is one page, the first of two is refused, or both are fetched.
-use Prim.Native.Nat.{ℕ, ◌+◌, ◌-◌, ◌*◌, ◌≤◌, ◌<◌}
+use Prim.Native.Nat.{ℕ, ◌+◌, ◌-◌, ◌*◌, ◌%◌, ◌≤◌, ◌<◌}
 use native.Mathlib.Omega.{arith}
-use mathlib.Core.Path.{◌≡◌, ap, ap₂, sym, ◌∙◌}
+use mathlib.Core.Path.{◌≡◌, refl, ap, ap₂, sym, ◌∙◌}
 use mathlib.Core.List.{List, [], ◌∷◌, ◌++◌}
 use mathlib.Core.Bool.{Bool, true, false, false≢true, ◌&&◌}
+use Rattle.std.specs.Prelude.{Result, Ok, Err}
 use lib.ListN.{length, take, drop, get_or, length-drop}
 use lib.Seq.{take-append-le, drop-append-le, length-take-le}
-use borrow.Author.Tests.{ltb-true, ltb-false}
+use borrow.Author.Tests.{ltb-true, ltb-false, eq-eqb, lt-ltb}
 use Rattle.state.specs.declared.refusal.Refusal.{Refusal}
 use Rattle.state.specs.declared.refusal.Refusal.TheVariants.{EntryMisaligned}
 use Rattle.state.specs.Refusals.{number}
@@ -14,14 +15,13 @@ use Rattle.state.specs.Verdict.{Reply, refused, replied, accepted, looked_in, ve
 use Rattle.octets.specs.Lists.{part}
 use Rattle.endian.specs.LittleEndian.{least_first}
 use Rattle.cache.specs.Runs.{Machine, given, says, delivers, after, ran}
-use Rattle.listing.specs.declared.Gathered.{Gathered}
-use Rattle.listing.specs.declared.Gathered.TheVariants.{Entries, Refused}
 use Rattle.prp.specs.Pages.{Walk, needed, with_list, fit, chained, first_count, second_count}
 use Rattle.prp.specs.Entries.{Got, entries_in, is_multiple, ◌then◌, page_says}
 use Rattle.prp.specs.Walk.{Asks, list_one, got_one, entries_one, onward, list_two, got_two, entries_two, lists_say, looked_in_lists, asks_of}
 use Rattle.prp.proofs.Reading.{entry_at, entries_first, entries_beside, entries_front, entries_taken}
 use Rattle.prp.proofs.Answers.{then_first}
 use Rattle.prp.proofs.Entries.{page_nothing}
+use Rattle.prp.proofs.Pages.{fit_some}
 use Rattle.prp.proofs.Listed.{entries_one_lem, entries_two_lem, lists_one, lists_two}
 use Rattle.listing.specs.Page.{gathered_reply, looked_by, ListsPage}
 use Rattle.lists.specs.Lists.{lists_make, Lists}
@@ -33,6 +33,11 @@ part_of_first at n xs ys h =
     let left : n ≤ length (drop at xs) = simp length-drop (omega arith) in
     ap (take n) (drop-append-le at xs ys low) ∙ take-append-le n (drop at xs) ys left
 
+-- the records that both pages' fetches looked at
+abbrev pub with_first : (look : ℕ) → Result ℕ Refusal → Result ℕ Refusal
+with_first look (Ok more) = Ok (look + more)
+with_first look (Err why) = Err why
+
 module _ (words store : List ℕ) (w : Walk) where
   abbrev m : Machine
   m = given words store
@@ -40,7 +45,7 @@ module _ (words store : List ℕ) (w : Walk) where
   abbrev asks : Asks
   asks = asks_of m
 
-  pub wrong_second : (scratch : List ℕ) → is_multiple 8 w.prp2 ≡ false → Lists words store w (Refused EntryMisaligned) words store scratch
+  pub wrong_second : (scratch : List ℕ) → is_multiple 8 w.prp2 ≡ false → Lists words store w (Err EntryMisaligned) words store scratch
   unfolding verdict accepted lists_make ran
   wrong_second scratch wrong = record {
     answer = rw wrong;
@@ -64,7 +69,7 @@ module _ (words store : List ℕ) (w : Walk) where
     makes = rw right
 
     -- the first page
-    module _ (r : Gathered) (words' store' entries' : List ℕ)
+    module _ (r : Result ℕ Refusal) (words' store' entries' : List ℕ)
         (P : ListsPage words store w.window w.command w.prp2 (first_count w) r words' store' entries') where
       said_one : gathered_reply r ≡ page_says (first_count w) (got_one asks w)
       unfolding ran
@@ -110,11 +115,11 @@ module _ (words store : List ℕ) (w : Walk) where
         makes_by : (b : Bool) → accepted (gathered_reply r) ≡ b → lists_make asks w ≡ list_one asks w ∷ elim b [ true ↦ list_two asks w ∷ [] | false ↦ [] ]
         makes_by b e = makes ∙ rw (linked, ← said_one, e)
 
-        pub first_refused : (why : Refusal) → r ≡ Refused why → (scratch : List ℕ) → Lists words store w r words' store' scratch
+        pub first_refused : (why : Refusal) → r ≡ Err why → (scratch : List ℕ) → Lists words store w r words' store' scratch
         unfolding accepted
         first_refused why is scratch =
             let said : refused (number why) ≡ page_says (first_count w) (got_one asks w) = sym (ap gathered_reply is) ∙ said_one in
-            let no : accepted (gathered_reply r) ≡ false = ap (λ (v : Gathered). accepted (gathered_reply v)) is in
+            let no : accepted (gathered_reply r) ≡ false = ap (λ (v : Result ℕ Refusal). accepted (gathered_reply v)) is in
             record {
               answer = ap gathered_reply is ∙ sym (goes_on ∙ ap (λ (q : Reply). q then page_says (second_count w) (got_two asks w)) (sym said));
               machine = left_one ∙ ap (ran m) (sym (makes_by false no));
@@ -123,10 +128,10 @@ module _ (words store : List ℕ) (w : Walk) where
             }
 
         -- the first page is as it should be
-        module _ (look : ℕ) (is : r ≡ Entries look) (some : 0 < fit w) where
+        module _ (look : ℕ) (is : r ≡ Ok look) (some : 0 < fit w) where
           taken : accepted (gathered_reply r) ≡ true
           unfolding accepted
-          taken = ap (λ (v : Gathered). accepted (gathered_reply v)) is
+          taken = ap (λ (v : Result ℕ Refusal). accepted (gathered_reply v)) is
 
           all_fit : first_count w ≡ fit w
           all_fit = omega (arith, ltb-true (fit w) (needed w) linked)
@@ -144,7 +149,7 @@ module _ (words store : List ℕ) (w : Walk) where
               ∙ sym (entry_at (fit w) entries' (fit w - 1) (omega arith)) ∙ ap (λ (es : List ℕ). get_or es (fit w - 1) 0) entries_held
 
           -- the second page, fetched from where the first one left the machine, over the onward entry
-          module _ (q : Gathered) (words'' store'' entries'' : List ℕ)
+          module _ (q : Result ℕ Refusal) (words'' store'' entries'' : List ℕ)
               (Q : ListsPage words' store' w.window w.command (onward asks w) (second_count w) q words'' store'' entries'') where
             abbrev got : Machine → Got
             got k = record { answer = says k (list_two asks w); bytes = delivers k (list_two asks w) }
@@ -189,14 +194,48 @@ module _ (words store : List ℕ) (w : Walk) where
             looked_sum e =
                 ap₂ ◌+◌ (ap looked_by (sym is) ∙ looked_one taken) (looked_two e) ∙ sym (lists_two asks w linked)
 
+            -- nothing is added to a refusal
+            same : gathered_reply (with_first look q) ≡ gathered_reply q
+            same = elim q as (λ v. gathered_reply (with_first look v) ≡ gathered_reply v) [ Ok more ↦ refl | Err why ↦ refl ]
+
+            looked_both : accepted (gathered_reply q) ≡ true → looked_by (with_first look q) ≡ looked_in_lists asks w
+            unfolding accepted
+            looked_both =
+                elim q as (λ v. (accepted (gathered_reply v) ≡ true → look + looked_by v ≡ looked_in_lists asks w) →
+                accepted (gathered_reply v) ≡ true → looked_by (with_first look v) ≡ looked_in_lists asks w)
+                [ Ok more ↦ (λ sum e. sum e) | Err why ↦ (λ sum e. absurd (false≢true e)) ] looked_sum
+
             pub two_pages_lem : (low : ℕ) → low ≡ 8 * (fit w - 1) → (rest rest'' : List ℕ)
-                → (s : Gathered) → gathered_reply s ≡ gathered_reply q → (accepted (gathered_reply q) ≡ true → looked_by s ≡ look + looked_by q)
-                → Lists words store w s words'' store'' (take low (entries' ++ rest) ++ (entries'' ++ rest''))
-            two_pages_lem low here rest rest'' s same added =
-                let taken_two : accepted (gathered_reply s) ≡ true → accepted (gathered_reply q) ≡ true = λ e. ap accepted (sym same) ∙ e in
+                → Lists words store w (with_first look q) words'' store'' (take low (entries' ++ rest) ++ (entries'' ++ rest''))
+            two_pages_lem low here rest rest'' =
+                let taken_two : accepted (gathered_reply (with_first look q)) ≡ true → accepted (gathered_reply q) ≡ true = λ e. ap accepted (sym same) ∙ e in
                 record {
                   answer = same ∙ said_two ∙ sym said_both;
                   machine = left_two ∙ ap (ran m) (sym (makes_by true taken));
                   entries = λ e. rw here (side_by_side rest rest'' (fetched_two (taken_two e)) ∙ sym (entries_two_lem asks w listed linked));
-                  looked = λ e. added (taken_two e) ∙ looked_sum (taken_two e);
+                  looked = λ e. looked_both (taken_two e);
                 }
+
+-- Both pages, by the counts of the code: how many entries are needed, and how many fit.
+pub both_pages :
+    (words store : List ℕ) (w : Walk) (n f look next : ℕ) (q : Result ℕ Refusal) (words' store' entries' rest words'' store'' entries'' rest'' : List ℕ)
+    → n ≡ needed w → f ≡ fit w → f < n → 1 < needed w → w.prp2 % 8 ≡ 0
+    → ListsPage words store w.window w.command w.prp2 f (Ok look) words' store' entries'
+    → next ≡ least_first (part (entries' ++ rest) (8 * (f - 1)) 8)
+    → ListsPage words' store' w.window w.command next (n - (f - 1)) q words'' store'' entries''
+    → Lists words store w (with_first look q) words'' store'' (take (8 * (f - 1)) (entries' ++ rest) ++ (entries'' ++ rest''))
+both_pages words store w n f look next q words' store' entries' rest words'' store'' entries'' rest'' count fits more lists multiple P leads Q =
+    let right : is_multiple 8 w.prp2 ≡ true = eq-eqb (w.prp2 % 8) 0 multiple in
+    let listed : with_list w ≡ true = lt-ltb 1 (needed w) lists in
+    let linked : chained w ≡ true = lt-ltb (fit w) (needed w) (omega arith) in
+    let all : f ≡ first_count w = omega arith in
+    let page = rw all at P in
+    let some : 0 < fit w = fit_some w.prp2 multiple in
+    -- the entry that leads on
+    let next_is : next ≡ onward (asks_of (given words store)) w =
+    leads ∙ ap (λ (k : ℕ). least_first (part (entries' ++ rest) (8 * (k - 1)) 8)) fits
+    ∙ onward_read words store w right (Ok look) words' store' entries' page linked listed look refl some rest in
+    let left : n - (f - 1) ≡ second_count w = omega arith in
+    let second = rw (next_is, left) at Q in
+    two_pages_lem words store w right (Ok look) words' store' entries' page linked listed look refl some q words'' store'' entries'' second
+    (8 * (f - 1)) (ap (λ (k : ℕ). 8 * (k - 1)) fits) rest rest''

@@ -1,8 +1,8 @@
 -- The lists behind PRP2 as the code fetches and judges them.
-use Rattle.std.specs.Prelude.{ℕ, ◌≡◌, List, [], ◌∷◌, true, false, cond, ◌&&◌}
+use Rattle.std.specs.Prelude.{ℕ, ◌≡◌, List, [], ◌∷◌, true, false, cond, ◌&&◌, Result}
 use Rattle.state.specs.Verdict.{accepted}
 use Rattle.cache.specs.Runs.{Call, given, ran}
-use Rattle.listing.specs.declared.Gathered.{Gathered}
+use Rattle.state.specs.declared.refusal.Refusal.{Refusal}
 use Rattle.listing.specs.Page.{gathered_reply, looked_by}
 use Rattle.prp.specs.Pages.{Walk, scratch_least, needed, chained, first_count}
 use Rattle.prp.specs.Entries.{entries_in, wrong_multiple, judged, page_says}
@@ -30,7 +30,7 @@ lists_make asks w =
 
 -- The lists behind PRP2: what is said of them, what their fetches leave, and, if nothing is wrong, the entries of both pages side by side at the
 -- front of the scratch, without the onward one, and the records that were looked at.
-pub record Lists (words store : List ℕ) (w : Walk) (r : Gathered) (words' store' scratch' : List ℕ) : Type 0 where
+pub record Lists (words store : List ℕ) (w : Walk) (r : Result ℕ Refusal) (words' store' scratch' : List ℕ) : Type 0 where
   pub answer : gathered_reply r ≡ lists_say (asks_of (given words store)) w
   pub machine : given words' store' ≡ ran (given words store) (lists_make (asks_of (given words store)) w)
   pub entries : accepted (gathered_reply r) ≡ true → entries_in (needed w) scratch' ≡ page_entries (asks_of (given words store)) w

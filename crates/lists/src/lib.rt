@@ -1,14 +1,11 @@
 // The lists behind PRP2.
 #![tactic(auto)]
 
-ghost use Rattle.std.specs.Prelude.{◌≡◌, true, ◌+◌, ◌-◌, ◌/◌, ◌%◌, ◌≤◌, ◌<◌, length};
-ghost use Rattle.state.specs.Limits.{record_limit};
-ghost use Rattle.state.specs.Verdict.{accepted};
+ghost use Rattle.std.specs.Prelude.{◌≡◌, ◌-◌, ◌/◌, ◌%◌, ◌≤◌, ◌<◌, length};
 ghost use Rattle.prp.specs.Pages.{page_size, entry_size, needed};
-ghost use Rattle.listing.specs.Page.{gathered_reply, looked_by};
 ghost use Rattle.lists.specs.Lists.{asked, Lists};
 
-use listing::{Gathered, list_page};
+use listing::list_page;
 use pages::entries::entry;
 use pages::spans::behind_first;
 use state::{CacheState, Refusal};
@@ -18,17 +15,6 @@ fn room_in_page(prp2: u64) -> usize
     ensures { result ≡ (page_size - prp2 % page_size) / entry_size }
 {
     (4096 - (prp2 % 4096) as usize) / 8
-}
-
-// With the records that the first page's fetch looked at.
-fn add(looked: usize, second: Gathered) -> Gathered
-    requires { (looked ≤ record_limit) × (looked_by second ≤ record_limit) }
-    ensures { (gathered_reply result ≡ gathered_reply second) × (accepted (gathered_reply second) ≡ true → looked_by result ≡ looked + looked_by second) }
-{
-    match second {
-        Gathered::Entries(more) => Gathered::Entries(looked + more),
-        Gathered::Refused(why) => Gathered::Refused(why),
-    }
 }
 
 // The lists behind PRP2, one page of them or two: the second is fetched over the onward entry, so that the entries stand side by side.
@@ -41,12 +27,12 @@ pub fn gather_lists(
     prp1: u64,
     prp2: u64,
     transfer: usize,
-) -> Gathered
+) -> Result<usize, Refusal>
     requires { (128 ≤ length scratch.old) × (1 < needed (asked command prp1 prp2 transfer window.now)) × (0 < transfer) × (transfer ≤ 65536) }
     ensures { Lists state.old store.old (asked command prp1 prp2 transfer window.now) result state.new store.new scratch.new }
 {
     if prp2 % 8 != 0 {
-        return Gathered::Refused(Refusal::EntryMisaligned);
+        return Err(Refusal::EntryMisaligned);
     }
     let count = behind_first(prp1, transfer);
     let fit = room_in_page(prp2);
@@ -63,7 +49,7 @@ pub fn gather_lists(
         );
     }
     let mid = 8 * fit;
-    let first = list_page(
+    let looked = list_page(
         state,
         store,
         window,
@@ -71,14 +57,11 @@ pub fn gather_lists(
         command,
         prp2,
         fit,
-    );
-    let Gathered::Entries(looked) = first else {
-        return first;
-    };
+    )?;
     let last = fit - 1;
     let onward = entry(scratch, last);
     let low = 8 * last;
-    let second = list_page(
+    let more = list_page(
         state,
         store,
         window,
@@ -86,6 +69,6 @@ pub fn gather_lists(
         command,
         onward,
         count - last,
-    );
-    add(looked, second)
+    )?;
+    Ok(looked + more)
 }

@@ -1,21 +1,25 @@
 -- One line of the log (01, the agreed scope, "The log program", and request F-6 of 02, the agreed changes; docs/RULES.md has their rules).
-use Rattle.std.specs.Prelude.{ℕ, List, [], ◌∷◌, ◌++◌, map, cond, eqb}
+use Rattle.std.specs.Prelude.{ℕ, List, [], ◌∷◌, ◌++◌, map, cond, eqb, Result}
 use Prim.Native.Char.{code}
-use Rattle.state.specs.Refusals.{number}
+use Rattle.state.specs.declared.refusal.Refusal.{Refusal}
+use Rattle.state.specs.Answers.{reply_of}
 use Rattle.state.specs.Verdict.{Reply, refused, replied, without_looked}
-use Rattle.loglines.specs.declared.line.Answer.{Answer}
-use Rattle.loglines.specs.declared.line.Answer.TheVariants.{Done, Count, Counts, Fetched, Refused}
+use Rattle.loglines.specs.declared.answer.Numbers.{Numbers}
+use Rattle.loglines.specs.declared.answer.Numbers.TheVariants.{Nothing, One, Two, Fetched}
 use Rattle.octets.specs.Text.{ascii}
 use Rattle.text.specs.Decimal.{decimal}
 use Rattle.text.specs.Hexadecimal.{hexadecimal}
 
+-- the numbers that an accepted call replies
+abbrev pub told : Numbers → List ℕ
+told Nothing = []
+told (One n) = n ∷ []
+told (Two m n) = m ∷ n ∷ []
+told (Fetched counts) = counts.fresh ∷ counts.replayed ∷ counts.looked ∷ []
+
 -- what each answer of the code stands for
-abbrev pub answer_reply : Answer → Reply
-answer_reply Done = replied []
-answer_reply (Count n) = replied (n ∷ [])
-answer_reply (Counts m n) = replied (m ∷ n ∷ [])
-answer_reply (Fetched fresh replayed looked) = replied (fresh ∷ replayed ∷ looked ∷ [])
-answer_reply (Refused r) = refused (number r)
+abbrev pub answer_reply : Result Numbers Refusal → Reply
+answer_reply = reply_of told
 
 -- 01's letter of a fetch
 abbrev pub fetch_letter : ℕ

@@ -1,7 +1,8 @@
-// The log of a run, one line for each frame: the text of a line, made in a lent buffer; and whether an
-// answer is a refusal.
+// The log of a run, one line for each frame: the numbers that it tells of an accepted call, and the text of a line, made in a lent buffer.
 #![tactic(auto)]
 
+mod answer;
 mod line;
 
-pub use line::{Answer, is_accepted, put_line, put_too_long};
+pub use answer::Numbers;
+pub use line::{put_line, put_too_long};

@@ -1,39 +1,14 @@
-// One line of the log, put into a lent buffer, and the answer that it tells.
-ghost use Rattle.std.specs.Prelude.{◌≡◌, ◌++◌, map};
-ghost use Rattle.state.specs.Verdict.{accepted, numbers_of, without_looked};
+// One line of the log, put into a lent buffer.
+ghost use Rattle.std.specs.Prelude.{◌++◌, map, take};
+ghost use Rattle.state.specs.Verdict.{without_looked};
 ghost use Rattle.octets.specs.Text.{ascii, Puts};
 ghost use Rattle.text.specs.Decimal.{decimal};
-ghost use Rattle.loglines.specs.Line.{answer_reply, delivered_fields, answer_fields, spaced, line_of, too_long};
+ghost use Rattle.loglines.specs.Line.{answer_reply, delivered_fields, answer_fields, told, spaced, line_of, too_long};
 
+use crate::answer::Numbers;
 use octets::put;
 use state::Refusal;
-use text::{put_byte, put_decimal, put_hex, wide};
-
-// What was done with a frame.
-#[derive(Clone, Copy)]
-pub enum Answer {
-    Done,
-    // how many bytes a host write wrote
-    Count(usize),
-    // records and bytes of an end, bytes of an own write and how many of their addresses were not held before
-    Counts(usize, usize),
-    // fresh and replayed bytes of a fetch, and how many records it looked at
-    Fetched(usize, usize, usize),
-    Refused(Refusal),
-}
-
-// An answer that is no refusal.
-pub fn is_accepted(answer: Answer) -> bool
-    ensures { result ≡ accepted (answer_reply answer) }
-{
-    match answer {
-        Answer::Done => true,
-        Answer::Count(_) => true,
-        Answer::Counts(_, _) => true,
-        Answer::Fetched(_, _, _) => true,
-        Answer::Refused(_) => false,
-    }
-}
+use text::{put_byte, put_decimal, put_hex};
 
 const BLANK: u8 = b' ';
 
@@ -47,7 +22,7 @@ pub fn put_line(
     at: usize,
     number: usize,
     letter: u8,
-    answer: Answer,
+    answer: Result<Numbers, Refusal>,
     delivered: &[u8],
 ) -> usize
     ensures { Puts out.old at (line_of number letter (answer_reply answer) delivered.now) result out.new }
@@ -67,27 +42,37 @@ pub fn put_too_long(out: &mut [u8], at: usize) -> usize
 }
 
 // `no` and the number of a refusal; or `ok`, the numbers of a reply and what was delivered.
-fn put_answer(out: &mut [u8], at: usize, letter: u8, answer: Answer, delivered: &[u8]) -> usize
+fn put_answer(
+    out: &mut [u8],
+    at: usize,
+    letter: u8,
+    answer: Result<Numbers, Refusal>,
+    delivered: &[u8],
+) -> usize
     ensures { Puts out.old at (spaced (answer_fields letter (without_looked (answer_reply answer)) delivered.now)) result out.new }
 {
-    if let Answer::Refused(refusal) = answer {
-        let next = put_word(out, at, b"no");
-        return put_number(out, next, wide(refusal.number()));
+    match answer {
+        Ok(numbers) => {
+            let next = put_word(out, at, b"ok");
+            let next = put_numbers(out, next, numbers);
+            put_delivered(out, next, letter, delivered)
+        }
+        Err(refusal) => {
+            let next = put_word(out, at, b"no");
+            put_number(out, next, usize::from(refusal.number()))
+        }
     }
-    let next = put_word(out, at, b"ok");
-    let next = put_numbers(out, next, answer);
-    put_delivered(out, next, letter, delivered)
 }
 
 // The numbers of a reply, if there are any, but for that of the records looked at.
-fn put_numbers(out: &mut [u8], at: usize, answer: Answer) -> usize
-    ensures { Puts out.old at (spaced (map decimal (numbers_of (without_looked (answer_reply answer))))) result out.new }
+fn put_numbers(out: &mut [u8], at: usize, numbers: Numbers) -> usize
+    ensures { Puts out.old at (spaced (map decimal (take 2 (told numbers)))) result out.new }
 {
-    match answer {
-        Answer::Count(n) => put_number(out, at, n),
-        Answer::Counts(m, n) => put_two(out, at, m, n),
-        Answer::Fetched(fresh, replayed, _) => put_two(out, at, fresh, replayed),
-        _ => put(out, at, b""),
+    match numbers {
+        Numbers::Nothing => put(out, at, b""),
+        Numbers::One(n) => put_number(out, at, n),
+        Numbers::Two(m, n) => put_two(out, at, m, n),
+        Numbers::Fetched(counts) => put_two(out, at, counts.fresh, counts.replayed),
     }
 }
 
@@ -119,7 +104,7 @@ fn put_delivered(out: &mut [u8], at: usize, letter: u8, delivered: &[u8]) -> usi
     if letter != FETCH {
         return put(out, at, b"");
     }
-    if delivered.len() == 0 {
+    if delivered.is_empty() {
         return put_word(out, at, b"-");
     }
     let next = put_byte(out, at, BLANK);

@@ -2,9 +2,10 @@
 ghost use Rattle.std.specs.Prelude.{◌≡◌, ◌||◌, ltb, length};
 ghost use Rattle.octets.specs.Lists.{all_zero};
 ghost use Rattle.state.specs.Runs.{runs_from};
-ghost use Rattle.bits.specs.Bits.{word_limit, map_limit, is_set};
+ghost use Rattle.bits.specs.Bits.{map_limit, is_set};
 ghost use Rattle.bytemap.specs.Map.{map_of, holds};
 
+use crate::ByteMap;
 use state::CacheState;
 use stretches::clean::clean;
 
@@ -12,15 +13,17 @@ use stretches::clean::clean;
 fn open_or_empty(flag: u64, words: &[u64]) -> bool
     ensures { result ≡ (ltb 0 flag || all_zero words.now) }
 {
-    if flag != 0 {
-        return true;
-    }
-    bits::all_zero(words)
+    flag != 0 || bits::all_zero(words)
 }
 
 // Whether the map holds together; the caller has counted its runs.
-pub fn holds(flag: u64, words: &[u64], values: &[u8], runs: usize) -> bool
-    requires { (length words.now ≡ word_limit) × (length values.now ≡ map_limit) × (runs ≡ length (runs_from (is_set words.now) 0 map_limit)) }
+pub fn holds(
+    flag: u64,
+    words: &[u64; ByteMap::WORDS],
+    values: &[u8; ByteMap::ADDRESSES],
+    runs: usize,
+) -> bool
+    requires { runs ≡ length (runs_from (is_set words.now) 0 map_limit) }
     ensures { result ≡ holds (map_of flag words.now values.now) }
 {
     if !open_or_empty(flag, words) {

@@ -1,6 +1,6 @@
 // The byte map in code: what a caller lends, whether it holds together, begin and end, as `bytemap` defines them. Each address has a bit, set
-// if its byte is held, and a value; a word says whether the command is open. The calls change the three where they stand. Fetch and own write
-// are in `mapfetch` and `mapwrite`.
+// if its byte is held, and a value; a word says whether the command is open. The calls change the three where they stand. They take them as
+// three parameters, since a caller in C lends each by its own address. Fetch and own write are in `mapfetch` and `mapwrite`.
 #![tactic(auto)]
 
 ghost use Rattle.std.specs.Prelude.{◌≡◌};
@@ -23,9 +23,9 @@ pub struct ByteMap {
 
 impl ByteMap {
     // How many addresses there are, and so the longest window.
-    pub const ADDRESSES: usize = 4096;
+    pub const ADDRESSES: usize = bits::ADDRESSES;
     // The words of the map, of 64 bits each.
-    pub const WORDS: usize = 64;
+    pub const WORDS: usize = bits::WORDS;
 
     // The command is closed, and nothing is held.
     pub fn fresh() -> ByteMap

@@ -1,22 +1,21 @@
 // The half of fetch that judges: the refusal that applies, or the counts of the span. An own write is judged by it too.
-ghost use Rattle.std.specs.Prelude.{◌≡◌, [], ◌∷◌, not, ◌||◌, ◌+◌, ◌≤◌, leb, length};
+ghost use Rattle.std.specs.Prelude.{◌≡◌, not, ◌||◌, ◌+◌, ◌≤◌, leb, length};
 ghost use Rattle.octets.specs.Lists.{count};
 ghost use Rattle.state.specs.Limits.{record_limit};
 ghost use Rattle.state.specs.Records.{in_span, span};
-ghost use Rattle.state.specs.Verdict.{replied};
 ghost use Rattle.state.specs.Runs.{runs_from};
 ghost use Rattle.state.specs.Answers.{map_fetch_reply};
-ghost use Rattle.bits.specs.Bits.{word_limit, map_limit, is_set};
+ghost use Rattle.bits.specs.Bits.{map_limit, is_set};
 ghost use Rattle.bytemap.specs.Map.{map_of};
 ghost use Rattle.bytemap.specs.Fetch.{fetch_says};
 
 use mapcalls::ByteMap;
 use mapcalls::holds::holds;
-use state::{CacheState, MapFetchAnswer, Refusal, range};
+use state::{CacheState, MapFetchCounts, Refusal, range};
 
 // Whether there are at most 64 runs with the span too. It adds one at most, so that only a map that has 64 is counted again.
-fn has_room(words: &[u64], runs: usize, address: usize, size: usize) -> bool
-    requires { (length words.now ≡ word_limit) × (runs ≡ length (runs_from (is_set words.now) 0 map_limit)) × (address + size ≤ map_limit) }
+fn has_room(words: &[u64; ByteMap::WORDS], runs: usize, address: usize, size: usize) -> bool
+    requires { (runs ≡ length (runs_from (is_set words.now) 0 map_limit)) × (address + size ≤ map_limit) }
     ensures { result ≡ leb (length (runs_from (λ x. is_set words.now x || in_span address size x) 0 map_limit)) record_limit }
 {
     if runs < CacheState::RECORDS {
@@ -26,12 +25,13 @@ fn has_room(words: &[u64], runs: usize, address: usize, size: usize) -> bool
 }
 
 // The reply of an accepted fetch: the counts of its span.
-fn counted(words: &[u64], address: usize, size: usize) -> MapFetchAnswer
-    requires { (length words.now ≡ word_limit) × (address + size ≤ map_limit) }
-    ensures { map_fetch_reply result ≡ replied (count (λ x. not (is_set words.now x)) (span address size) ∷ count (is_set words.now) (span address size) ∷ []) }
+fn counted(words: &[u64; ByteMap::WORDS], address: usize, size: usize) -> MapFetchCounts
+    requires { address + size ≤ map_limit }
+    ensures fresh { result.fresh ≡ count (λ x. not (is_set words.now x)) (span address size) }
+    ensures replayed { result.replayed ≡ count (is_set words.now) (span address size) }
 {
     let replayed = bits::count_span(words, address, address + size);
-    MapFetchAnswer::Done {
+    MapFetchCounts {
         fresh: size - replayed,
         replayed,
     }
@@ -40,37 +40,36 @@ fn counted(words: &[u64], address: usize, size: usize) -> MapFetchAnswer
 // The first check that applies is given.
 pub fn judge(
     flag: u64,
-    words: &[u64],
-    values: &[u8],
+    words: &[u64; ByteMap::WORDS],
+    values: &[u8; ByteMap::ADDRESSES],
     window_len: usize,
     destination_len: usize,
     address: usize,
     size: usize,
-) -> MapFetchAnswer
-    requires { (length words.now ≡ word_limit) × (length values.now ≡ map_limit) }
+) -> Result<MapFetchCounts, Refusal>
     ensures { map_fetch_reply result ≡ fetch_says (map_of flag words.now values.now) window_len destination_len address size }
 {
     if CacheState::TRANSFER < size {
-        return MapFetchAnswer::Refused(Refusal::LengthTooLong);
+        return Err(Refusal::LengthTooLong);
     }
     if ByteMap::ADDRESSES < window_len {
-        return MapFetchAnswer::Refused(Refusal::WindowBeyondMap);
+        return Err(Refusal::WindowBeyondMap);
     }
     if range::outside(window_len, address, size) {
-        return MapFetchAnswer::Refused(Refusal::OutsideWindow);
+        return Err(Refusal::OutsideWindow);
     }
     if destination_len < size {
-        return MapFetchAnswer::Refused(Refusal::BufferTooShort);
+        return Err(Refusal::BufferTooShort);
     }
     let runs = bits::runs(words);
     if !holds(flag, words, values, runs) {
-        return MapFetchAnswer::Refused(Refusal::StateBroken);
+        return Err(Refusal::StateBroken);
     }
     if flag == 0 {
-        return MapFetchAnswer::Refused(Refusal::CommandNotOpen);
+        return Err(Refusal::CommandNotOpen);
     }
     if !has_room(words, runs, address, size) {
-        return MapFetchAnswer::Refused(Refusal::TooManyRecords);
+        return Err(Refusal::TooManyRecords);
     }
-    counted(words, address, size)
+    Ok(counted(words, address, size))
 }

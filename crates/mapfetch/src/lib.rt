@@ -3,22 +3,21 @@
 #![tactic(auto)]
 
 ghost use Rattle.std.specs.Prelude.{◌≡◌, length};
-ghost use Rattle.bits.specs.Bits.{word_limit, map_limit};
 ghost use Rattle.bytemap.specs.Map.{map_of};
 ghost use Rattle.bytemap.specs.Fetch.{Fetches};
 ghost use Rattle.mapfetch.specs.Delivery.{Fits, Delivers};
 
 use crate::judge::judge;
 use mapcalls::ByteMap;
-use state::MapFetchAnswer;
+use state::{MapFetchCounts, Refusal};
 use stretches::take::take;
 
 pub mod judge;
 
 // The bytes of the span are taken into the values, go from there to the destination, and the span is set.
 fn deliver(
-    words: &mut [u64],
-    values: &mut [u8],
+    words: &mut [u64; ByteMap::WORDS],
+    values: &mut [u8; ByteMap::ADDRESSES],
     window: &[u8],
     destination: &mut [u8],
     address: usize,
@@ -32,37 +31,6 @@ fn deliver(
     bits::set_span(words, address, address + size);
 }
 
-// The call, once the arrays are lent as slices.
-fn fetch_words(
-    flag: u64,
-    words: &mut [u64],
-    values: &mut [u8],
-    window: &[u8],
-    destination: &mut [u8],
-    address: usize,
-    size: usize,
-) -> MapFetchAnswer
-    requires { (length words.old ≡ word_limit) × (length values.old ≡ map_limit) }
-    ensures { Fetches (map_of flag words.old values.old) window.now destination.old address size result (map_of flag words.new values.new) destination.new }
-{
-    let answer = judge(
-        flag,
-        words,
-        values,
-        window.len(),
-        destination.len(),
-        address,
-        size,
-    );
-    match answer {
-        MapFetchAnswer::Refused(why) => MapFetchAnswer::Refused(why),
-        MapFetchAnswer::Done { fresh, replayed } => {
-            deliver(words, values, window, destination, address, size);
-            MapFetchAnswer::Done { fresh, replayed }
-        }
-    }
-}
-
 pub fn fetch(
     flag: &u64,
     words: &mut [u64; ByteMap::WORDS],
@@ -71,8 +39,18 @@ pub fn fetch(
     destination: &mut [u8],
     address: usize,
     size: usize,
-) -> MapFetchAnswer
+) -> Result<MapFetchCounts, Refusal>
     ensures { Fetches (map_of flag.now words.old values.old) window.now destination.old address size result (map_of flag.now words.new values.new) destination.new }
 {
-    fetch_words(*flag, words, values, window, destination, address, size)
+    let counts = judge(
+        *flag,
+        words,
+        values,
+        window.len(),
+        destination.len(),
+        address,
+        size,
+    )?;
+    deliver(words, values, window, destination, address, size);
+    Ok(counts)
 }

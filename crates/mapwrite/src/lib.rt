@@ -6,38 +6,40 @@ ghost use Rattle.std.specs.Prelude.{◌≡◌, ◌||◌, ◌+◌, ◌≤◌, len
 ghost use Rattle.octets.specs.Lists.{overwrite};
 ghost use Rattle.state.specs.Records.{in_span};
 ghost use Rattle.state.specs.Answers.{own_write_reply};
-ghost use Rattle.bits.specs.Bits.{word_limit, map_limit, is_set, words_of};
+ghost use Rattle.bits.specs.Bits.{map_limit, is_set, words_of};
 ghost use Rattle.bytemap.specs.Map.{map_of};
 ghost use Rattle.bytemap.specs.OwnWrite.{own_says, OwnWrites};
 
 use mapcalls::ByteMap;
-use state::{MapFetchAnswer, OwnWriteAnswer};
+use state::{OwnWriteCounts, Refusal};
 
 // An own write is judged as a fetch of its span to a destination that has just the room.
 fn judge(
     flag: u64,
-    words: &[u64],
-    values: &[u8],
+    words: &[u64; ByteMap::WORDS],
+    values: &[u8; ByteMap::ADDRESSES],
     window_len: usize,
     address: usize,
     size: usize,
-) -> OwnWriteAnswer
-    requires { (length words.now ≡ word_limit) × (length values.now ≡ map_limit) }
+) -> Result<OwnWriteCounts, Refusal>
     ensures { own_write_reply result ≡ own_says (map_of flag words.now values.now) window_len address size }
 {
-    let fetched = mapfetch::judge::judge(flag, words, values, window_len, size, address, size);
-    match fetched {
-        MapFetchAnswer::Refused(why) => OwnWriteAnswer::Refused(why),
-        MapFetchAnswer::Done { fresh, replayed: _ } => OwnWriteAnswer::Done {
-            written: size,
-            fresh,
-        },
-    }
+    let fetched = mapfetch::judge::judge(flag, words, values, window_len, size, address, size)?;
+    Ok(OwnWriteCounts {
+        written: size,
+        fresh: fetched.fresh,
+    })
 }
 
 // The bytes go among the values and into the window, and their span is set.
-fn hold(words: &mut [u64], values: &mut [u8], window: &mut [u8], address: usize, bytes: &[u8])
-    requires { (length words.old ≡ word_limit) × (length values.old ≡ map_limit) × (address + length bytes.now ≤ map_limit) × (address + length bytes.now ≤ length window.old) }
+fn hold(
+    words: &mut [u64; ByteMap::WORDS],
+    values: &mut [u8; ByteMap::ADDRESSES],
+    window: &mut [u8],
+    address: usize,
+    bytes: &[u8],
+)
+    requires { (address + length bytes.now ≤ map_limit) × (address + length bytes.now ≤ length window.old) }
     ensures words { words.new ≡ words_of (λ x. is_set words.old x || in_span address (length bytes.now) x) }
     ensures values { values.new ≡ overwrite values.old address bytes.now }
     ensures window { window.new ≡ overwrite window.old address bytes.now }
@@ -54,13 +56,10 @@ pub fn own_write(
     window: &mut [u8],
     address: usize,
     bytes: &[u8],
-) -> OwnWriteAnswer
+) -> Result<OwnWriteCounts, Refusal>
     ensures { OwnWrites (map_of flag.now words.old values.old) window.old address bytes.now result (map_of flag.now words.new values.new) window.new }
 {
-    let answer = judge(*flag, words, values, window.len(), address, bytes.len());
-    let OwnWriteAnswer::Done { .. } = answer else {
-        return answer;
-    };
+    let counts = judge(*flag, words, values, window.len(), address, bytes.len())?;
     hold(words, values, window, address, bytes);
-    answer
+    Ok(counts)
 }

@@ -2,17 +2,13 @@
 ghost use Rattle.std.specs.Prelude.{◌≡◌, ◌-◌, length, take};
 ghost use Rattle.octets.specs.Lists.{overwrite};
 
-use numbers::lesser;
-
 // Copies the source over the front of the buffer, as much of it as there is room for.
 pub fn copy_front(buffer: &mut [u8], source: &[u8])
     ensures { buffer.new ≡ overwrite buffer.old 0 (take (length buffer.old) source.now) }
 {
-    let n = lesser(buffer.len(), source.len());
-    let mut i = 0;
-    while i < n {
+    let n = buffer.len().min(source.len());
+    for i in 0..n {
         buffer[i] = source[i];
-        i += 1;
     }
 }
 

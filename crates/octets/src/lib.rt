@@ -1,13 +1,11 @@
 // Byte buffers as lists: definitions in specs/, the laws on lists that the toolchain lacks in proofs/.
-// The functions set, copy and move bytes in a buffer, and put text into one. Each takes every input: what does not fit is left out.
+// The functions copy and move bytes in a buffer, and put text into one. Each takes every input: what does not fit is left out.
 #![tactic(auto)]
 
 mod copy;
-mod fill;
 mod shift;
 mod text;
 
 pub use copy::{copy_at, copy_front};
-pub use fill::clear;
 pub use shift::move_up;
 pub use text::put;

@@ -2,8 +2,6 @@
 ghost use Rattle.std.specs.Prelude.{◌≡◌, ◌+◌, ◌-◌, min, length};
 ghost use Rattle.octets.specs.Lists.{overwrite, part};
 
-use numbers::lesser;
-
 // Moves the `count` bytes from `from` on up by `by` places, as many of the lowest as there is room for.
 // The highest go first, so that none is written over before it is read.
 pub fn move_up(buffer: &mut [u8], from: usize, count: usize, by: usize)
@@ -21,9 +19,8 @@ pub fn move_up(buffer: &mut [u8], from: usize, count: usize, by: usize)
         return;
     }
     let to = from + by;
-    let mut k = lesser(count, above - by);
-    while 0 < k {
-        k -= 1;
+    let n = count.min(above - by);
+    for k in (0..n).rev() {
         buffer[to + k] = buffer[from + k];
     }
 }

@@ -1,11 +1,12 @@
 -- What an own write leaves, case by case: it is refused, it is of no bytes, or its bytes are held and written.
 use Prim.Native.Nat.{ℕ, ◌+◌, ◌≤◌, ◌<◌}
 use native.Mathlib.Omega.{arith}
-use mathlib.Core.Path.{◌≡◌, refl, ap, sym, subst, ◌∙◌}
+use mathlib.Core.Path.{◌≡◌, refl, ap, sym, ◌∙◌}
 use mathlib.Core.List.{List, [], ◌∷◌}
 use mathlib.Core.Bool.{Bool, true, false, cond, false≢true}
 use lib.Dec.{leb}
 use lib.ListN.{length}
+use Rattle.std.specs.Prelude.{Result, Ok, Err}
 use borrow.Author.Tests.{leb-true}
 use Rattle.octets.specs.Lists.{overwrite}
 use Rattle.octets.proofs.Overwrite.{overwrite_none}
@@ -18,8 +19,7 @@ use Rattle.state.specs.State.{State, records_of, open_with, with_command}
 use Rattle.state.specs.Words.{state_of}
 use Rattle.state.specs.Refusals.{number}
 use Rattle.state.specs.Verdict.{Reply, refused, replied, accepted, verdict}
-use Rattle.state.specs.declared.answer.OwnWriteAnswer.{OwnWriteAnswer}
-use Rattle.state.specs.declared.answer.OwnWriteAnswer.TheVariants.{Done, Refused}
+use Rattle.state.specs.declared.answer.OwnWriteCounts.{OwnWriteCounts}
 use Rattle.state.specs.Answers.{own_write_reply}
 use Rattle.state.proofs.Verdict.{verdict_bars}
 use Rattle.store.specs.Store.{part_start, location, packed, from, sees, written}
@@ -30,9 +30,13 @@ use Rattle.cache.specs.OwnWrite.{own_says, own_state, own_store, own_window}
 use Rattle.cache.proofs.Accepted.{own_judged}
 use Rattle.admission.proofs.Admitted.{Admits, admits, bytes_barred, records_barred, none_barred}
 use Rattle.admission.proofs.Nothing.{nothing_joined, nothing_held, nothing_new, nothing_added}
-use Rattle.holding.specs.Holding.{MayHold, Held, BytesFull, RecordsFull}
+use Rattle.holding.specs.Holding.{MayHold, Held, Holds}
 use Rattle.holding.proofs.Held.{span_placed, span_writes}
 use Rattle.ownwrite.specs.OwnWrite.{OwnWrites}
+
+-- what an accepted own write gives
+abbrev pub done : (written new : ℕ) → Result OwnWriteCounts Refusal
+done written new = Ok (record { written = written; fresh = new })
 
 module _ (words store window : List ℕ) (c a : ℕ) (bytes : List ℕ) where
   abbrev s : State
@@ -51,7 +55,7 @@ module _ (words store window : List ℕ) (c a : ℕ) (bytes : List ℕ) where
   abbrev value : ℕ → ℕ
   value = written a bytes (sees rs (location s c) store (from a bytes))
 
-  refusing : (why : Refusal) → says ≡ refused (number why) → OwnWrites words store window c a bytes (Refused why) words store window
+  refusing : (why : Refusal) → says ≡ refused (number why) → OwnWrites words store window c a bytes (Err why) words store window
   unfolding accepted own_state own_store own_window
   refusing why is =
       let no : accepted says ≡ false = ap accepted is in
@@ -59,7 +63,7 @@ module _ (words store window : List ℕ) (c a : ℕ) (bytes : List ℕ) where
 
   pub barred :
       (why : Refusal) → verdict (admit_checks s (length store) (length window) n c a n) (replied []) ≡ refused (number why)
-      → OwnWrites words store window c a bytes (Refused why) words store window
+      → OwnWrites words store window c a bytes (Err why) words store window
   unfolding own_says
   barred why is =
       refusing why
@@ -67,7 +71,7 @@ module _ (words store window : List ℕ) (c a : ℕ) (bytes : List ℕ) where
       ∙ verdict_bars (admit_checks s (length store) (length window) n c a n) _ [] _ (number why) is)
 
   accepting :
-      (r : OwnWriteAnswer) (words' store' window' ns : List ℕ) → own_write_reply r ≡ replied ns → says ≡ replied ns
+      (r : Result OwnWriteCounts Refusal) (words' store' window' ns : List ℕ) → own_write_reply r ≡ replied ns → says ≡ replied ns
       → state_of words' ≡ with_command s c (open_with (joined rs a n)) → store' ≡ packed store c (joined rs a n) value
       → window' ≡ overwrite window a bytes → OwnWrites words store window c a bytes r words' store' window'
   unfolding accepted own_state own_store own_window
@@ -108,21 +112,19 @@ module _ (words store window : List ℕ) (c a : ℕ) (bytes : List ℕ) where
       }
 
       module _ (words' store' : List ℕ) where
-        pub bytes_refused : BytesFull words store c a n words' store' → OwnWrites words store window c a bytes (Refused TooManyBytes) words' store' window
+        pub full_refused :
+            (why : Refusal) → Holds words store c a n a bytes (Err why) words' store' → OwnWrites words store window c a bytes (Err why) words' store' window
         unfolding own_says
-        bytes_refused full =
+        full_refused TooManyBytes full =
             rw (full.same_words, full.same_store)
             (refusing TooManyBytes
             (own_judged s (length store) (length window) c a n _ ∙ bytes_barred s (length store) (length window) n c a n e _ full.many))
-
-        pub records_refused :
-            RecordsFull words store c a n words' store' → OwnWrites words store window c a bytes (Refused TooManyRecords) words' store' window
-        unfolding own_says
-        records_refused full =
+        full_refused TooManyRecords full =
             rw (full.same_words, full.same_store)
             (refusing TooManyRecords
             (own_judged s (length store) (length window) c a n _
             ∙ records_barred s (length store) (length window) n c a n e _ full.bytes full.many))
+        full_refused _ full = absurd full
 
         -- the span is held, its bytes are put over what was held before, and they are in the window
         module _ (new at look : ℕ) (H : Held words store c a n a bytes new at look words' store') where
@@ -138,20 +140,20 @@ module _ (words store window : List ℕ) (c a : ℕ) (bytes : List ℕ) where
 
           pub span_written :
               (store'' window' : List ℕ) → store'' ≡ cond (leb n new) store' (overwrite store' (part_start c + at) bytes) → window' ≡ overwrite window a bytes
-              → OwnWrites words store window c a bytes (Done n new) words' store'' window'
+              → OwnWrites words store window c a bytes (done n new) words' store'' window'
           span_written store'' window' puts host =
-              accepting (Done n new) words' store'' window' (n ∷ fresh rs a n ∷ []) (ap (λ (k : ℕ). replied (n ∷ k ∷ [])) H.counted)
+              accepting (done n new) words' store'' window' (n ∷ fresh rs a n ∷ []) (ap (λ (k : ℕ). replied (n ∷ k ∷ [])) H.counted)
               (taken H.bytes H.records) H.state (puts ∙ stands (leb n new) refl) host
 
 -- No bytes: what is written stands there already.
 none_written :
     (words store window : List ℕ) (c a : ℕ)
     → accepted (verdict (admit_checks (state_of words) (length store) (length window) 0 c a 0) (replied [])) ≡ true
-    → OwnWrites words store window c a [] (Done 0 0) words store window
+    → OwnWrites words store window c a [] (done 0 0) words store window
 unfolding span count_fresh
 none_written words store window c a e =
     let A = admits (state_of words) (length store) (length window) 0 c a 0 e in
-    accepting words store window c a [] (Done 0 0) words store window (0 ∷ 0 ∷ []) refl
+    accepting words store window c a [] (done 0 0) words store window (0 ∷ 0 ∷ []) refl
     (taken words store window c a [] e (nothing_new words store (length window) 0 c a A) (nothing_added words store (length window) 0 c a A))
     (nothing_joined words store (length window) 0 c a A)
     (sym
@@ -161,6 +163,6 @@ none_written words store window c a e =
 pub nothing :
     (words store window : List ℕ) (c a : ℕ) (bytes : List ℕ) → length bytes ≡ 0
     → accepted (verdict (admit_checks (state_of words) (length store) (length window) (length bytes) c a (length bytes)) (replied [])) ≡ true
-    → OwnWrites words store window c a bytes (Done 0 0) words store window
+    → OwnWrites words store window c a bytes (done 0 0) words store window
 nothing words store window c a [] none e = none_written words store window c a e
 nothing words store window c a (b ∷ bytes) none e = absurd (omega arith)

@@ -6,14 +6,14 @@ ghost use Rattle.std.specs.Prelude.{◌≡◌, [], true, cond, ◌+◌, ◌<◌,
 ghost use Rattle.octets.specs.Lists.{overwrite};
 ghost use Rattle.state.specs.Verdict.{replied, accepted, verdict};
 ghost use Rattle.cache.specs.Fetch.{admit_checks};
-ghost use Rattle.state.specs.Limits.{command_limit, held_limit, store_size, state_words};
+ghost use Rattle.state.specs.Limits.{command_limit, held_limit, store_size};
 ghost use Rattle.state.specs.Words.{state_of};
 ghost use Rattle.store.specs.Store.{part_start};
 ghost use Rattle.ownwrite.specs.OwnWrite.{OwnWrites};
 
-use admission::admit::{Admission, admit};
-use holding::{Holding, hold_span};
-use state::{CacheState, OwnWriteAnswer, Refusal};
+use admission::admit::admit;
+use holding::hold_span;
+use state::{CacheState, OwnWriteCounts, Refusal};
 use store::part;
 
 // The bytes of a span that is held are put over what was held of it before. Where all of its addresses are new they stand there already.
@@ -29,68 +29,27 @@ fn put_over(store: &mut [u8], command: usize, place: usize, bytes: &[u8], fresh:
 
 // A byte or more: they are held, if there is room for what they bring, put over what was held of their span before, and written into the window.
 fn write_span(
-    state: &mut [u16],
+    state: &mut [u16; CacheState::WORDS],
     store: &mut [u8],
     window: &mut [u8],
     command: usize,
     address: usize,
     bytes: &[u8],
-) -> OwnWriteAnswer
-    requires { (length state.old ≡ state_words) × (accepted (verdict (admit_checks (state_of state.old) (length store.old) (length window.old) (length bytes.now) command address (length bytes.now)) (replied [])) ≡ true) × (0 < length bytes.now) }
+) -> Result<OwnWriteCounts, Refusal>
+    requires { (accepted (verdict (admit_checks (state_of state.old) (length store.old) (length window.old) (length bytes.now) command address (length bytes.now)) (replied [])) ≡ true) × (0 < length bytes.now) }
     ensures { OwnWrites state.old store.old window.old command address bytes.now result state.new store.new window.new }
 {
     let written = bytes.len();
-    let holding = hold_span(state, store, bytes, address, command, address, written);
-    match holding {
-        Holding::Bytes => OwnWriteAnswer::Refused(Refusal::TooManyBytes),
-        Holding::Records => OwnWriteAnswer::Refused(Refusal::TooManyRecords),
-        Holding::Span {
-            fresh,
-            place,
-            looked: _,
-        } => {
-            put_over(store, command, place, bytes, fresh);
-            octets::copy_at(window, address, bytes);
-            OwnWriteAnswer::Done { written, fresh }
-        }
-    }
+    let held = hold_span(state, store, bytes, address, command, address, written)?;
+    put_over(store, command, held.place, bytes, held.fresh);
+    octets::copy_at(window, address, bytes);
+    Ok(OwnWriteCounts {
+        written,
+        fresh: held.fresh,
+    })
 }
 
-// The call, once the array is lent as a slice, of which parts can be lent. It is admitted as a fetch of the span is, into a destination that
-// has room for it.
-fn own_words(
-    state: &mut [u16],
-    store: &mut [u8],
-    window: &mut [u8],
-    command: usize,
-    address: usize,
-    bytes: &[u8],
-) -> OwnWriteAnswer
-    requires { length state.old ≡ state_words }
-    ensures { OwnWrites state.old store.old window.old command address bytes.now result state.new store.new window.new }
-{
-    let size = bytes.len();
-    let admission = admit(
-        state,
-        store.len(),
-        window.len(),
-        size,
-        command,
-        address,
-        size,
-    );
-    if let Admission::Barred(why) = admission {
-        return OwnWriteAnswer::Refused(why);
-    }
-    if size == 0 {
-        return OwnWriteAnswer::Done {
-            written: 0,
-            fresh: 0,
-        };
-    }
-    write_span(state, store, window, command, address, bytes)
-}
-
+// The call is admitted as a fetch of the span is, into a destination that has room for it.
 pub fn own_write(
     state: &mut [u16; CacheState::WORDS],
     store: &mut [u8],
@@ -98,8 +57,24 @@ pub fn own_write(
     command: usize,
     address: usize,
     bytes: &[u8],
-) -> OwnWriteAnswer
+) -> Result<OwnWriteCounts, Refusal>
     ensures { OwnWrites state.old store.old window.old command address bytes.now result state.new store.new window.new }
 {
-    own_words(state, store, window, command, address, bytes)
+    let size = bytes.len();
+    admit(
+        state,
+        store.len(),
+        window.len(),
+        size,
+        command,
+        address,
+        size,
+    )?;
+    if size == 0 {
+        return Ok(OwnWriteCounts {
+            written: 0,
+            fresh: 0,
+        });
+    }
+    write_span(state, store, window, command, address, bytes)
 }

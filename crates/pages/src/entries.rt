@@ -22,13 +22,11 @@ pub fn all_pages(bytes: &[u8], count: usize) -> bool
     requires { 8 * count ≤ length bytes.now }
     ensures { result ≡ all (is_multiple page_size) (entries_in count bytes.now) }
 {
-    let mut i = 0;
-    while i < count {
+    for i in 0..count {
         let address = entry(bytes, i);
         if address % 4096 != 0 {
             return false;
         }
-        i += 1;
     }
     true
 }

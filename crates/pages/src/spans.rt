@@ -6,7 +6,6 @@ ghost use Rattle.prp.specs.Pages.{transfer_most, spans_most, touched_by, share_i
 ghost use Rattle.prp.specs.Entries.{entries_in, entries_behind};
 
 use crate::entries::entry;
-use numbers::{greater, lesser, minus};
 
 // How many pages a transfer touches behind the first, which is how many entries are needed behind PRP1.
 pub fn behind_first(prp1: u64, transfer: usize) -> usize
@@ -21,11 +20,8 @@ fn put_entries(list: &mut [u64], bytes: &[u8], count: usize)
     requires { (count < length list.old) × (8 * count ≤ length bytes.now) }
     ensures { list.new ≡ overwrite list.old 1 (entries_in count bytes.now) }
 {
-    let mut i = count;
-    while 0 < i {
-        let below = i - 1;
-        list[i] = entry(bytes, below);
-        i = below;
+    for i in (0..count).rev() {
+        list[i + 1] = entry(bytes, i);
     }
 }
 
@@ -49,7 +45,7 @@ fn share_in(offset: usize, reach: usize, i: usize) -> u32
 {
     let low = 4096 * i;
     let high = low + 4096;
-    minus(lesser(reach, high), greater(offset, low)) as u32
+    reach.min(high).saturating_sub(offset.max(low)) as u32
 }
 
 // The lengths, the last one first.
@@ -57,9 +53,7 @@ pub fn put_lengths(list: &mut [u32], offset: usize, reach: usize, count: usize)
     requires { (count ≤ length list.old) × (count ≤ 17) }
     ensures { list.new ≡ overwrite list.old 0 (map (share_in offset reach) (span 0 count)) }
 {
-    let mut i = count;
-    while 0 < i {
-        i -= 1;
+    for i in (0..count).rev() {
         list[i] = share_in(offset, reach, i);
     }
 }

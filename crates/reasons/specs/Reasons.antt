@@ -1,7 +1,5 @@
 -- The reason of each refusal in words.
-use Rattle.std.specs.Prelude.{ℕ, List, ◌++◌, take, replicate}
 use Prim.Native.String.{String}
-use Rattle.octets.specs.Text.{ascii}
 use Rattle.state.specs.declared.refusal.Refusal.{Refusal}
 use Rattle.state.specs.declared.refusal.Refusal.TheVariants.{FrameTooShort, UnknownKind, FieldNotZero, LengthTooLong, DataMismatch, CommandTooHigh}
 use Rattle.state.specs.declared.refusal.Refusal.TheVariants.{WindowTooLong, StoreWrongSize, OutsideWindow, BufferTooShort, AddressTooHigh, StateBroken}
@@ -30,7 +28,3 @@ reason NoSuchRecord = "the command has no record of this number"
 reason WindowBeyondMap = "the window is longer than 4096 bytes"
 reason TransferOutOfRange = "the transfer is not 1 to 65536 bytes"
 reason EntryMisaligned = "a page entry is not the multiple it must be"
-
--- with blanks behind it, up to 43 characters
-abbrev pub padded : String → List ℕ
-padded s = take 43 (ascii s ++ replicate 43 32)

@@ -6,7 +6,6 @@ ghost use Rattle.journal.specs.Run.{Replays};
 
 use entry::log_frame;
 use journal::Replayed;
-use numbers::one_if;
 use state::CacheState;
 
 pub fn replay(
@@ -19,14 +18,16 @@ pub fn replay(
 ) -> Replayed
     ensures { Replays (device_of state.old store.old window.old destination.old) input.now output.old result state.new store.new window.new destination.new output.new }
 {
-    let mut at = 0;
+    let mut rest = input;
     let mut number = 0;
     let mut written = 0;
     let mut carried = 0;
-    while at < input.len() {
+    // A turn goes on by as many bytes as its frame took up.
+    // `fetchlog` has a loop of this form. One function for both would be lent all that a turn changes, which is no plainer.
+    while !rest.is_empty() {
         let r = log_frame(
             number + 1,
-            &input[at..],
+            rest,
             state,
             store,
             window,
@@ -35,8 +36,7 @@ pub fn replay(
             written,
         );
         written = r.next;
-        let taken = r.taken;
-        if taken == 0 {
+        if r.taken == 0 {
             return Replayed {
                 carried,
                 refused: number - carried,
@@ -44,9 +44,9 @@ pub fn replay(
                 written,
             };
         }
-        carried = carried + one_if(r.accepted);
-        number = number + 1;
-        at = at + taken;
+        carried += usize::from(r.accepted);
+        number += 1;
+        rest = &rest[r.taken..];
     }
     Replayed {
         carried,

@@ -1,15 +1,10 @@
 // The replies of the calls.
-ghost use Rattle.std.specs.Prelude.{◌≡◌, [], ◌∷◌};
-ghost use Rattle.state.specs.Refusals.{number};
-ghost use Rattle.state.specs.Verdict.{refused, replied};
+ghost use Rattle.std.specs.Prelude.{◌≡◌};
 ghost use Rattle.state.specs.Answers.{begin_reply, end_reply, fetch_reply, map_fetch_reply, host_write_reply, own_write_reply, show_reply, walk_reply};
 ghost use Rattle.replies.specs.Replies.{begun_of, ended_of, fetched_of, written_of, shown_of, walked_of};
 
 use crate::status::{OK, status};
-use state::{
-    BeginAnswer, EndAnswer, FetchAnswer, HostWriteAnswer, MapFetchAnswer, OwnWriteAnswer, Refusal,
-    ShowAnswer, WalkAnswer,
-};
+use state::{EndCounts, FetchCounts, MapFetchCounts, OwnWriteCounts, Record, Refusal, WalkCounts};
 
 #[repr(C)]
 #[derive(Drop)]
@@ -63,142 +58,116 @@ pub struct Walked {
     pub looked_at: usize,
 }
 
-pub fn begin_reply(answer: BeginAnswer) -> Begun
+pub fn begin_reply(answer: Result<(), Refusal>) -> Begun
     ensures { result ≡ begun_of (begin_reply answer) }
 {
     match answer {
-        BeginAnswer::Refused(why) => Begun {
+        Ok(()) => Begun { status: OK },
+        Err(why) => Begun {
             status: status(why),
         },
-        BeginAnswer::Done => Begun { status: OK },
     }
 }
 
-pub fn end_reply(answer: EndAnswer) -> Ended
+pub fn end_reply(answer: Result<EndCounts, Refusal>) -> Ended
     ensures { result ≡ ended_of (end_reply answer) }
 {
     match answer {
-        EndAnswer::Refused(why) => Ended {
-            status: status(why),
-            records: 0,
-            bytes: 0,
-        },
-        EndAnswer::Done { records, bytes } => Ended {
+        Ok(EndCounts { records, bytes }) => Ended {
             status: OK,
             records,
             bytes,
         },
+        Err(why) => Ended {
+            status: status(why),
+            records: 0,
+            bytes: 0,
+        },
     }
 }
 
-pub fn fetch_reply(answer: FetchAnswer) -> Fetched
+pub fn fetch_reply(answer: Result<FetchCounts, Refusal>) -> Fetched
     ensures { result ≡ fetched_of (fetch_reply answer) }
 {
     match answer {
-        FetchAnswer::Refused(why) => fetch_refused(why),
-        FetchAnswer::Done {
-            fresh,
-            replayed,
-            looked,
-        } => fetch_done(fresh, replayed, looked),
+        Ok(counts) => Fetched {
+            status: OK,
+            fresh: counts.fresh,
+            replayed: counts.replayed,
+            looked_at: counts.looked,
+        },
+        Err(why) => Fetched {
+            status: status(why),
+            fresh: 0,
+            replayed: 0,
+            looked_at: 0,
+        },
     }
 }
 
-pub fn map_fetch_reply(answer: MapFetchAnswer) -> Fetched
+pub fn map_fetch_reply(answer: Result<MapFetchCounts, Refusal>) -> Fetched
     ensures { result ≡ fetched_of (map_fetch_reply answer) }
 {
-    match answer {
-        MapFetchAnswer::Refused(why) => fetch_refused(why),
-        MapFetchAnswer::Done { fresh, replayed } => fetch_done(fresh, replayed, 0),
-    }
-}
-
-fn fetch_done(fresh: usize, replayed: usize, looked_at: usize) -> Fetched
-    ensures { result ≡ fetched_of (replied (fresh ∷ replayed ∷ looked_at ∷ [])) }
-{
-    Fetched {
-        status: OK,
+    fetch_reply(answer.map(|MapFetchCounts { fresh, replayed }| FetchCounts {
         fresh,
         replayed,
-        looked_at,
-    }
+        looked: 0,
+    }))
 }
 
-fn fetch_refused(why: Refusal) -> Fetched
-    ensures { result ≡ fetched_of (refused (number why)) }
-{
-    Fetched {
-        status: status(why),
-        fresh: 0,
-        replayed: 0,
-        looked_at: 0,
-    }
-}
-
-pub fn write_reply(answer: HostWriteAnswer) -> Written
+pub fn write_reply(answer: Result<usize, Refusal>) -> Written
     ensures { result ≡ written_of (host_write_reply answer) }
 {
-    match answer {
-        HostWriteAnswer::Refused(why) => Written {
-            status: status(why),
-            bytes: 0,
-            fresh: 0,
-        },
-        HostWriteAnswer::Done(n) => Written {
-            status: OK,
-            bytes: n,
-            fresh: 0,
-        },
-    }
+    own_write_reply(answer.map(|written| OwnWriteCounts { written, fresh: 0 }))
 }
 
-pub fn own_write_reply(answer: OwnWriteAnswer) -> Written
+pub fn own_write_reply(answer: Result<OwnWriteCounts, Refusal>) -> Written
     ensures { result ≡ written_of (own_write_reply answer) }
 {
     match answer {
-        OwnWriteAnswer::Refused(why) => Written {
-            status: status(why),
-            bytes: 0,
-            fresh: 0,
-        },
-        OwnWriteAnswer::Done { written, fresh } => Written {
+        Ok(OwnWriteCounts { written, fresh }) => Written {
             status: OK,
             bytes: written,
             fresh,
         },
+        Err(why) => Written {
+            status: status(why),
+            bytes: 0,
+            fresh: 0,
+        },
     }
 }
 
-pub fn show_reply(answer: ShowAnswer) -> Shown
+pub fn show_reply(answer: Result<Record, Refusal>) -> Shown
     ensures { result ≡ shown_of (show_reply answer) }
 {
     match answer {
-        ShowAnswer::Refused(why) => Shown {
-            status: status(why),
-            start: 0,
-            len: 0,
-        },
-        ShowAnswer::Record { start, len } => Shown {
+        Ok(Record { start, len }) => Shown {
             status: OK,
             start,
             len,
         },
+        Err(why) => Shown {
+            status: status(why),
+            start: 0,
+            len: 0,
+        },
     }
 }
 
-pub fn walk_reply(answer: WalkAnswer) -> Walked
+pub fn walk_reply(answer: Result<WalkCounts, Refusal>) -> Walked
     ensures { result ≡ walked_of (walk_reply answer) }
 {
     match answer {
-        WalkAnswer::Refused(why) => Walked {
-            status: status(why),
-            spans: 0,
-            looked_at: 0,
-        },
-        WalkAnswer::Done { spans, looked } => Walked {
+        Ok(WalkCounts { spans, looked }) => Walked {
             status: OK,
             spans,
             looked_at: looked,
+        },
+        Err(why) => Walked {
+            status: status(why),
+            spans: 0,
+            looked_at: 0,
         },
     }
 }

@@ -1,12 +1,14 @@
 // The replies of the reader and the writer of frames.
 ghost use Rattle.std.specs.Prelude.{◌≡◌};
-ghost use Rattle.frames.specs.declared.ReadAnswer.TheVariants.{Step as Took};
+ghost use Rattle.kinds.specs.Table.{number};
 ghost use Rattle.frames.specs.Read.{read_reply};
 ghost use Rattle.frames.specs.Write.{write_reply};
 ghost use Rattle.replies.specs.Replies.{step_of, framed_of};
 
 use crate::status::{OK, status};
-use frames::{Parsed, ReadAnswer, Step, WriteAnswer};
+use frames::{Parsed, Step};
+use kinds::Kind;
+use state::Refusal;
 
 // The numbers of a step, and how many bytes its frame took up.
 #[repr(C)]
@@ -28,12 +30,12 @@ pub struct Framed {
     pub size: usize,
 }
 
-fn numbered(kind: usize, command: usize, address: usize, size: usize, taken: usize) -> FrameStep
-    ensures { result ≡ record { status = 0; kind = kind; command = command; address = address; size = size; taken = taken } }
+fn numbered(kind: Kind, command: usize, address: usize, size: usize, taken: usize) -> FrameStep
+    ensures { result ≡ record { status = 0; kind = number kind; command = command; address = address; size = size; taken = taken } }
 {
     FrameStep {
         status: OK,
-        kind,
+        kind: kind.number(),
         command,
         address,
         size,
@@ -42,32 +44,32 @@ fn numbered(kind: usize, command: usize, address: usize, size: usize, taken: usi
 }
 
 fn step_reply(parsed: Parsed) -> FrameStep
-    ensures { result ≡ step_of (read_reply (Took parsed)) }
+    ensures { result ≡ step_of (read_reply (Ok parsed)) }
 {
     let taken = parsed.consumed;
-    let step = parsed.step;
-    match step {
-        Step::Begin { command } => numbered(0, command, 0, 0, taken),
+    match parsed.step {
+        Step::Begin { command } => numbered(Kind::Begin, command, 0, 0, taken),
         Step::Fetch {
             command,
             address,
             size,
-        } => numbered(1, command, address, size, taken),
-        Step::End { command } => numbered(2, command, 0, 0, taken),
-        Step::HostWrite { address, size } => numbered(3, 0, address, size, taken),
+        } => numbered(Kind::Fetch, command, address, size, taken),
+        Step::End { command } => numbered(Kind::End, command, 0, 0, taken),
+        Step::HostWrite { address, size } => numbered(Kind::HostWrite, 0, address, size, taken),
         Step::OwnWrite {
             command,
             address,
             size,
-        } => numbered(4, command, address, size, taken),
+        } => numbered(Kind::OwnWrite, command, address, size, taken),
     }
 }
 
-pub fn read_reply(answer: ReadAnswer) -> FrameStep
+pub fn read_reply(answer: Result<Parsed, Refusal>) -> FrameStep
     ensures { result ≡ step_of (read_reply answer) }
 {
     match answer {
-        ReadAnswer::Refused(why) => FrameStep {
+        Ok(parsed) => step_reply(parsed),
+        Err(why) => FrameStep {
             status: status(why),
             kind: 0,
             command: 0,
@@ -75,18 +77,17 @@ pub fn read_reply(answer: ReadAnswer) -> FrameStep
             size: 0,
             taken: 0,
         },
-        ReadAnswer::Step(parsed) => step_reply(parsed),
     }
 }
 
-pub fn frame_reply(answer: WriteAnswer) -> Framed
+pub fn frame_reply(answer: Result<usize, Refusal>) -> Framed
     ensures { result ≡ framed_of (write_reply answer) }
 {
     match answer {
-        WriteAnswer::Refused(why) => Framed {
+        Ok(size) => Framed { status: OK, size },
+        Err(why) => Framed {
             status: status(why),
             size: 0,
         },
-        WriteAnswer::Written(size) => Framed { status: OK, size },
     }
 }

@@ -9,5 +9,5 @@ pub(crate) const OK: u32 = 0;
 pub(crate) fn status(why: Refusal) -> u32
     ensures { result ≡ number why }
 {
-    why.number() as u32
+    u32::from(why.number())
 }

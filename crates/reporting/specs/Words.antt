@@ -7,10 +7,10 @@ use Rattle.state.specs.Refusals.{number}
 use Rattle.text.specs.Decimal.{decimal}
 use Rattle.reasons.specs.Reasons.{reason}
 use Rattle.fields.specs.declared.Fault.{Fault}
-use Rattle.fields.specs.declared.Fault.TheVariants.{Sound, UnknownLetter, FieldMissing, NotANumber, NotHexadecimal, OddDigits, FieldTooMany}
+use Rattle.fields.specs.declared.Fault.TheVariants.{UnknownLetter, FieldMissing, NotANumber, NotHexadecimal, OddDigits, FieldTooMany}
 use Rattle.fields.specs.declared.Fault.TheVariants.{ByteOrderMark, NothingExpected, NoStep}
 
--- what is wrong with a line that is no step; a sound one has no fault to tell
+-- what is wrong with a line that is no step
 abbrev pub fault : Fault → String
 fault UnknownLetter = "no kind of step has this letter"
 fault FieldMissing = "a field is missing"
@@ -21,7 +21,6 @@ fault FieldTooMany = "a field too many"
 fault ByteOrderMark = "a byte order mark stands before the step"
 fault NothingExpected = "nothing stands behind ="
 fault NoStep = "an expectation without a step"
-fault Sound = "no fault"
 
 -- why the writer refuses a step: the reason, and its number in brackets
 abbrev pub refusal : Refusal → List ℕ

@@ -1,12 +1,10 @@
 // What is said on standard error of lines that have no frame.
 #![tactic(auto)]
 
-use fields::Fault;
 use octets::put;
 use reason::{put_fault, put_refusal};
-use state::Refusal;
 use std::io::Write;
-use steps::Framed;
+use steps::Unframed;
 
 mod reason;
 
@@ -25,39 +23,24 @@ fn say_line<E: Write>(errors: &mut E, note: &mut [u8], at: usize, line: &[u8]) {
     console::say(errors, note, next);
 }
 
-fn say_fault<E: Write>(errors: &mut E, program: &[u8], number: usize, line: &[u8], fault: Fault) {
-    let mut note = [0u8; console::NOTE];
-    let next = put_place(&mut note, program, number);
-    let next = put_fault(&mut note, next, fault);
-    say_line(errors, &mut note, next, line);
-}
-
-fn say_refusal<E: Write>(
-    errors: &mut E,
-    program: &[u8],
-    number: usize,
-    line: &[u8],
-    refusal: Refusal,
-) {
-    let mut note = [0u8; console::NOTE];
-    let next = put_place(&mut note, program, number);
-    let next = put_refusal(&mut note, next, refusal);
-    say_line(errors, &mut note, next, line);
-}
-
-// A bad line is reported, and any other is passed.
+// Why a line has no frame is said, and nothing of any other.
 pub fn report<E: Write>(
     errors: &mut E,
     program: &[u8],
     number: usize,
     line: &[u8],
-    framed: Framed,
+    framed: Result<Option<usize>, Unframed>,
 ) {
-    match framed {
-        Framed::Bad(fault) => say_fault(errors, program, number, line, fault),
-        Framed::Refused(refusal) => say_refusal(errors, program, number, line, refusal),
-        _ => {}
-    }
+    let Err(why) = framed else {
+        return;
+    };
+    let mut note = [0u8; console::NOTE];
+    let next = put_place(&mut note, program, number);
+    let next = match why {
+        Unframed::Bad(fault) => put_fault(&mut note, next, fault),
+        Unframed::Refused(refusal) => put_refusal(&mut note, next, refusal),
+    };
+    say_line(errors, &mut note, next, line);
 }
 
 // What is said last where lines are bad: how many, and what is not done. Before it stands a hint, where the input is no text.

@@ -1,6 +1,5 @@
 // Classes of bytes.
-ghost use Rattle.std.specs.Prelude.{◌≡◌};
-ghost use Rattle.text.specs.Decimal.{is_digit};
+ghost use Rattle.std.specs.Prelude.{◌≡◌, ◌<◌, MatchOption};
 ghost use Rattle.scan.specs.Scan.{is_blank, hex_value, is_hex, stops};
 
 use crate::Stop;
@@ -14,7 +13,7 @@ pub(crate) fn stops(stop: Stop, byte: u8) -> bool
         Stop::Equals => byte == b'=',
         Stop::Word => !is_blank(byte),
         Stop::Blank => is_blank(byte),
-        Stop::NotDecimal => !is_decimal(byte),
+        Stop::NotDecimal => !byte.is_ascii_digit(),
         Stop::NotHex => !is_hex(byte),
     }
 }
@@ -22,51 +21,24 @@ pub(crate) fn stops(stop: Stop, byte: u8) -> bool
 fn is_blank(byte: u8) -> bool
     ensures { result ≡ is_blank byte }
 {
-    if byte == b' ' {
-        return true;
-    }
-    if byte == b'\t' {
-        return true;
-    }
-    byte == b'\r'
-}
-
-fn is_decimal(byte: u8) -> bool
-    ensures { result ≡ is_digit byte }
-{
-    if byte < b'0' {
-        return false;
-    }
-    byte <= b'9'
+    matches!(byte, b' ' | b'\t' | b'\r')
 }
 
 fn is_hex(byte: u8) -> bool
     ensures { result ≡ is_hex byte }
 {
-    hex_value(byte) < 16
+    hex_value(byte).is_some()
 }
 
-// The value of a digit of either case, and 16 for any other byte.
-pub(crate) fn hex_value(byte: u8) -> u8
-    ensures { result ≡ hex_value byte }
+// The value of a digit of either case.
+#[tactic(auto, unfolding(crate::specs::Scan::hex_value))]
+pub(crate) fn hex_value(byte: u8) -> Option<u8>
+    ensures { MatchOption result (hex_value byte ≡ 16) (λ value. (value ≡ hex_value byte) × (value < 16)) }
 {
-    if byte < b'0' {
-        return 16;
+    match byte {
+        b'0'..=b'9' => Some(byte - b'0'),
+        b'A'..=b'F' => Some(byte - b'A' + 10),
+        b'a'..=b'f' => Some(byte - b'a' + 10),
+        _ => None,
     }
-    if byte <= b'9' {
-        return byte - b'0';
-    }
-    if byte < b'A' {
-        return 16;
-    }
-    if byte <= b'F' {
-        return byte - b'A' + 10;
-    }
-    if byte < b'a' {
-        return 16;
-    }
-    if byte <= b'f' {
-        return byte - b'a' + 10;
-    }
-    16
 }

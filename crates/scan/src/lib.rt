@@ -8,7 +8,8 @@ mod values;
 pub use places::{has_word, starts, until};
 pub use values::{decode, value};
 
-// Where a scan of a text stops: at a byte of this class.
+// Where a scan of a text stops: at a byte of this class. A closure that tests a byte would be no plainer: the definitions compute with the
+// class.
 #[derive(Clone, Copy)]
 pub enum Stop {
     LineEnd,

@@ -9,14 +9,12 @@ use crate::classes::stops;
 pub fn until(text: &[u8], from: usize, stop: Stop) -> usize
     ensures { result ≡ place stop text.now from }
 {
-    let mut i = from;
-    while i < text.len() {
+    for i in from..text.len() {
         if stops(stop, text[i]) {
             return i;
         }
-        i += 1;
     }
-    i
+    from.max(text.len())
 }
 
 // Does a word follow?
@@ -30,15 +28,5 @@ pub fn has_word(text: &[u8], at: usize) -> bool
 pub fn starts(bytes: &[u8], text: &[u8]) -> bool
     ensures { result ≡ front eqb bytes.now text.now }
 {
-    let mut i = 0;
-    while i < bytes.len() {
-        if text.len() <= i {
-            return false;
-        }
-        if bytes[i] != text[i] {
-            return false;
-        }
-        i += 1;
-    }
-    true
+    text.starts_with(bytes)
 }

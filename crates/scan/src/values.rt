@@ -5,8 +5,6 @@ ghost use Rattle.text.specs.Decimal.{value_of};
 ghost use Rattle.scan.specs.Values.{most, pair_value, bytes_of};
 
 use crate::classes::hex_value;
-use numbers::{lesser, minus};
-use text::wide;
 
 // A number above this counts as this one.
 const MOST: usize = 1000000;
@@ -16,10 +14,8 @@ pub fn value(word: &[u8]) -> usize
     ensures { result ≡ min most (value_of word.now) }
 {
     let mut value = 0;
-    let mut i = 0;
-    while i < word.len() {
-        value = lesser(MOST, value * 10 + minus(wide(word[i]), 48));
-        i += 1;
+    for byte in word {
+        value = MOST.min(value * 10 + usize::from(byte.saturating_sub(b'0')));
     }
     value
 }
@@ -28,17 +24,15 @@ pub fn value(word: &[u8]) -> usize
 fn pair_value(high: u8, low: u8) -> u8
     ensures { result ≡ pair_value high low }
 {
-    hex_value(high) % 16 * 16 + hex_value(low) % 16
+    hex_value(high).unwrap_or(0) * 16 + hex_value(low).unwrap_or(0)
 }
 
 // Puts the bytes of a word to the front of a buffer, as many as there is room for.
 pub fn decode(word: &[u8], buffer: &mut [u8])
     ensures { buffer.new ≡ overwrite buffer.old 0 (take (length buffer.old) (bytes_of word.now)) }
 {
-    let n = lesser(buffer.len(), word.len() / 2);
-    let mut i = 0;
-    while i < n {
+    let n = buffer.len().min(word.len() / 2);
+    for i in 0..n {
         buffer[i] = pair_value(word[2 * i], word[2 * i + 1]);
-        i += 1;
     }
 }

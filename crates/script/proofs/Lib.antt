@@ -1,3 +1,3 @@
-pub mod Lines
+pub mod Counted
 pub mod Saying
 pub mod Worked

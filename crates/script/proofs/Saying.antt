@@ -9,9 +9,8 @@ use Rattle.frames.specs.Kinds.{frame_size}
 use Rattle.frames.specs.Write.{write_says}
 use Rattle.frames.proofs.Accepted.{writable, writes}
 use Rattle.fields.specs.declared.Step.{Step}
-use Rattle.fields.specs.declared.Meaning.{Meaning}
-use Rattle.fields.specs.declared.Meaning.TheVariants.{Nothing, Step as StepMeant, Bad}
-use Rattle.steps.specs.Line.{line_means}
+use Rattle.std.specs.Prelude.{Some, None, Ok, Err}
+use Rattle.steps.specs.Line.{Meaning, line_means}
 use Rattle.steps.specs.Frame.{answered, data_in, meaning_says}
 use Rattle.script.specs.declared.judging.Judged.{Judged}
 use Rattle.script.specs.Judging.{line_says, counts}
@@ -22,9 +21,9 @@ data_length buffer step = omega (arith, length-take (min step.given (length buff
 pub same_room : (meaning : Meaning) (buffer output buffer' output' : List ℕ) → length buffer ≡ length buffer' → length output ≡ length output'
     → meaning_says meaning buffer output ≡ meaning_says meaning buffer' output'
 unfolding meaning_says
-same_room Nothing buffer output buffer' output' b o = refl
-same_room (Bad fault) buffer output buffer' output' b o = refl
-same_room (StepMeant step) buffer output buffer' output' b o = rw (data_length buffer step, data_length buffer' step, b, o)
+same_room (Ok None) buffer output buffer' output' b o = refl
+same_room (Err fault) buffer output buffer' output' b o = refl
+same_room (Ok (Some step)) buffer output buffer' output' b o = rw (data_length buffer step, data_length buffer' step, b, o)
 
 -- so it is what is said of the line in buffers of these lengths
 pub said : (line buffer output : List ℕ) → length buffer ≡ 4096 → length output ≡ 4101
@@ -54,9 +53,9 @@ reply_small kind command address size given room (replied numbers) e =
 
 says_small : (meaning : Meaning) (buffer output : List ℕ) → Small (length output) (counts (meaning_says meaning buffer output))
 unfolding meaning_says
-says_small Nothing buffer output = record { bad = omega arith; frames = omega arith; bytes = omega arith }
-says_small (Bad fault) buffer output = record { bad = omega arith; frames = omega arith; bytes = omega arith }
-says_small (StepMeant s) buffer output = reply_small s.kind s.command s.address s.size (length (data_in buffer s)) (length output) _ refl
+says_small (Ok None) buffer output = record { bad = omega arith; frames = omega arith; bytes = omega arith }
+says_small (Err fault) buffer output = record { bad = omega arith; frames = omega arith; bytes = omega arith }
+says_small (Ok (Some s)) buffer output = reply_small s.kind s.command s.address s.size (length (data_in buffer s)) (length output) _ refl
 
 pub line_small : (line : List ℕ) → Small 4101 (counts (line_says line))
 unfolding line_says

@@ -9,7 +9,7 @@ use Rattle.frames.specs.Checks.{not_zero, zero_broken}
 use Rattle.frames.specs.Write.{write_says}
 use Rattle.scan.specs.Scan.{before, front, hex_value}
 use Rattle.fields.specs.Fields.{number_of, number_field, data_fault, data_field, end_fault}
-use Rattle.fields.specs.Meanings.{has_size, size_of, first_fault, judged as judgedFault, fields_mean}
+use Rattle.fields.specs.Meanings.{has_size, size_of, fields_mean}
 use Rattle.steps.specs.Line.{kind_for, kind_named, step_means, text_means}
 use Rattle.steps.specs.Line.{is_marked, line_means}
 use Rattle.steps.specs.Frame.{meaning_says}
@@ -29,5 +29,5 @@ three_lines = refl
 
 counted : judged_of (ascii "B 1\n\nX\nB 8\nH 5 00") ≡ judged 2 2 11
 unfolding lines in_front sum line_says meaning_says write_says verdict data_size not_zero zero_broken before front hex_value read_on number_of number_field
-    data_fault data_field end_fault kind_for kind_named has_size size_of first_fault judgedFault fields_mean step_means text_means is_marked line_means
+    data_fault data_field end_fault kind_for kind_named has_size size_of fields_mean step_means text_means is_marked line_means
 counted = refl

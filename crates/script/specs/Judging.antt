@@ -1,13 +1,12 @@
 -- The lines of a file, and what is counted of them.
-use Rattle.std.specs.Prelude.{ℕ, ◌+◌, List, [], ◌∷◌, cond, ltb, eqb, length, get_or, replicate}
+use Rattle.std.specs.Prelude.{ℕ, ◌+◌, List, [], ◌∷◌, cond, ltb, eqb, length, get_or, replicate, Result, Ok, Err}
 use Rattle.state.specs.Limits.{transfer_limit}
 use Rattle.state.specs.Verdict.{refused, replied}
 use Rattle.frames.specs.Layout.{head_size}
 use Rattle.steps.specs.Line.{line_means}
 use Rattle.steps.specs.Frame.{Said, nothing, faulty, answered, meaning_says}
 use Rattle.script.specs.declared.judging.Judged.{Judged}
-use Rattle.script.specs.declared.judging.Judgement.{Judgement}
-use Rattle.script.specs.declared.judging.Judgement.TheVariants.{TooLong, Lines}
+use Rattle.script.specs.declared.judging.TooLong.{TooLong}
 
 -- a byte before the first of some lines
 unfoldable pub in_front : ℕ → List (List ℕ) → List (List ℕ)
@@ -54,5 +53,5 @@ abbrev pub most : ℕ
 most = 1048576
 
 -- a file that is too long is not looked at
-unfoldable pub judgement : List ℕ → Judgement
-judgement input = cond (ltb most (length input)) TooLong (Lines (judged_of input))
+unfoldable pub judgement : List ℕ → Result Judged TooLong
+judgement input = cond (ltb most (length input)) (Err (record {})) (Ok (judged_of input))

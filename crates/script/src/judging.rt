@@ -1,13 +1,13 @@
 // The lines of a file, judged one after the other.
 ghost use Rattle.std.specs.Prelude.{◌≡◌, ◌≤◌, length, replicate};
 ghost use Rattle.steps.specs.Frame.{framed_says};
-ghost use Rattle.script.specs.Judging.{line_says, judged, counts, judged_of, judgement};
+ghost use Rattle.script.specs.Judging.{line_says, counts, judged_of, judgement};
 
+use crate::lines::Lines;
 use reporting::report;
-use scan::Stop;
 use state::CacheState;
 use std::io::Write;
-use steps::Framed;
+use steps::Unframed;
 
 // The most bytes of a file of steps.
 pub const MOST: usize = 1048576;
@@ -26,37 +26,39 @@ pub fn room() -> [u8; INPUT]
 }
 
 // How many lines have no frame though they are not blank, and how many frames of how many bytes the others have.
-#[derive(Drop)]
+#[derive(Clone, Copy)]
 pub struct Judged {
     pub bad: usize,
     pub frames: usize,
     pub bytes: usize,
 }
 
-#[derive(Drop)]
-pub enum Judgement {
-    TooLong,
-    Lines(Judged),
-}
+const NONE: Judged = Judged {
+    bad: 0,
+    frames: 0,
+    bytes: 0,
+};
 
-fn tally(bad: usize, frames: usize, bytes: usize) -> Judged
-    ensures { result ≡ judged bad frames bytes }
-{
-    Judged { bad, frames, bytes }
-}
+// A file has more bytes than one may have.
+#[derive(Clone, Copy)]
+pub struct TooLong;
 
 // What a line counts for.
-fn counts(framed: Framed) -> Judged
+fn counts(framed: Result<Option<usize>, Unframed>) -> Judged
     ensures { result ≡ counts (framed_says framed) }
 {
     match framed {
-        Framed::Nothing => tally(0, 0, 0),
-        Framed::Frame(size) => tally(0, 1, size),
-        Framed::Bad(_) => tally(1, 0, 0),
-        Framed::Refused(_) => tally(1, 0, 0),
+        Ok(None) => NONE,
+        Ok(Some(size)) => Judged {
+            frames: 1,
+            bytes: size,
+            ..NONE
+        },
+        Err(_) => Judged { bad: 1, ..NONE },
     }
 }
 
+#[tactic(auto, using(crate::proofs::Saying::said))]
 fn judge_line<E: Write>(
     errors: &mut E,
     program: &[u8],
@@ -79,36 +81,23 @@ fn judge_lines<E: Write>(errors: &mut E, program: &[u8], input: &[u8]) -> Judged
 {
     let mut buffer = [0u8; CacheState::TRANSFER];
     let mut frame = [0u8; FRAME];
-    let mut bad = 0;
-    let mut frames = 0;
-    let mut bytes = 0;
-    let mut number = 0;
-    let mut at = 0;
-    while at < input.len() {
-        let end = scan::until(input, at, Stop::LineEnd);
-        number += 1;
-        let line = judge_line(
-            errors,
-            program,
-            number,
-            &input[at..end],
-            &mut buffer,
-            &mut frame,
-        );
-        bad += line.bad;
-        frames += line.frames;
-        bytes += line.bytes;
-        at = end + 1;
+    let mut all = NONE;
+    for (i, line) in Lines::of(input).enumerate() {
+        let line = judge_line(errors, program, i + 1, line, &mut buffer, &mut frame);
+        all.bad += line.bad;
+        all.frames += line.frames;
+        all.bytes += line.bytes;
     }
-    Judged { bad, frames, bytes }
+    all
 }
 
 // A file that is too long is not looked at.
-pub fn judge<E: Write>(errors: &mut E, program: &[u8], input: &[u8]) -> Judgement
+#[tactic(auto, unfolding(crate::specs::Judging::judgement))]
+pub fn judge<E: Write>(errors: &mut E, program: &[u8], input: &[u8]) -> Result<Judged, TooLong>
     ensures { result ≡ judgement input.now }
 {
     if MOST < input.len() {
-        return Judgement::TooLong;
+        return Err(TooLong);
     }
-    Judgement::Lines(judge_lines(errors, program, input))
+    Ok(judge_lines(errors, program, input))
 }

@@ -2,5 +2,7 @@
 #![tactic(auto)]
 
 mod judging;
+mod lines;
 
-pub use judging::{FRAME, Judged, Judgement, MOST, judge, room};
+pub use judging::{FRAME, Judged, MOST, TooLong, judge, room};
+pub use lines::Lines;

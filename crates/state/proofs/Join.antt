@@ -1,5 +1,5 @@
 -- What joining a span gives: the numbers by which 23 and 24 are judged and, where there is room, the records joined.
-use Prim.Native.Nat.{ℕ, zero, suc, ◌+◌, ◌-◌}
+use Prim.Native.Nat.{ℕ, zero, suc, ◌+◌}
 use native.Mathlib.Omega.{arith}
 use mathlib.Core.Path.{refl, sym, subst}
 use Rattle.state.specs.Records.{looked}

@@ -1,62 +1,40 @@
-// What each call answers: begin, end and own write of the record engine and of the byte map alike, fetch of the one and of the other, host write,
-// show and the page walk.
-use crate::refusal::Refusal;
+// What an accepted call tells: fetch and own write of the record engine, end of it and of the byte map alike, fetch of the byte map, and the
+// page walk. A call that is turned away gives its `Refusal` instead. Begin has nothing to tell; a host write tells how many bytes were written,
+// and show a `Record`.
 
 #[derive(Clone, Copy)]
-pub enum BeginAnswer {
-    Done,
-    Refused(Refusal),
-}
-
-#[derive(Clone, Copy)]
-pub enum FetchAnswer {
+pub struct FetchCounts {
     // how many bytes of the span were fresh, how many were replayed, and how many records were looked at
-    Done {
-        fresh: usize,
-        replayed: usize,
-        looked: usize,
-    },
-    Refused(Refusal),
+    pub fresh: usize,
+    pub replayed: usize,
+    pub looked: usize,
 }
 
 // The byte map has no records to look at.
 #[derive(Clone, Copy)]
-pub enum MapFetchAnswer {
+pub struct MapFetchCounts {
     // how many bytes of the span were fresh, and how many were replayed
-    Done { fresh: usize, replayed: usize },
-    Refused(Refusal),
+    pub fresh: usize,
+    pub replayed: usize,
 }
 
 #[derive(Clone, Copy)]
-pub enum EndAnswer {
+pub struct EndCounts {
     // how many records and distinct bytes the command had
-    Done { records: usize, bytes: usize },
-    Refused(Refusal),
+    pub records: usize,
+    pub bytes: usize,
 }
 
 #[derive(Clone, Copy)]
-pub enum OwnWriteAnswer {
+pub struct OwnWriteCounts {
     // how many bytes were written, and how many of their addresses were not held before
-    Done { written: usize, fresh: usize },
-    Refused(Refusal),
+    pub written: usize,
+    pub fresh: usize,
 }
 
 #[derive(Clone, Copy)]
-pub enum HostWriteAnswer {
-    // how many bytes were written
-    Done(usize),
-    Refused(Refusal),
-}
-
-#[derive(Clone, Copy)]
-pub enum ShowAnswer {
-    Record { start: u16, len: u16 },
-    Refused(Refusal),
-}
-
-#[derive(Clone, Copy)]
-pub enum WalkAnswer {
+pub struct WalkCounts {
     // how many spans there are, and how many records the list fetches looked at
-    Done { spans: usize, looked: usize },
-    Refused(Refusal),
+    pub spans: usize,
+    pub looked: usize,
 }

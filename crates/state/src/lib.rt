@@ -12,10 +12,7 @@ mod answer;
 pub mod range;
 mod refusal;
 
-pub use answer::{
-    BeginAnswer, EndAnswer, FetchAnswer, HostWriteAnswer, MapFetchAnswer, OwnWriteAnswer,
-    ShowAnswer, WalkAnswer,
-};
+pub use answer::{EndCounts, FetchCounts, MapFetchCounts, OwnWriteCounts, WalkCounts};
 pub use refusal::Refusal;
 
 // A run of held addresses. An address is below 65,536 and a record holds at most 4,096 bytes, so 16 bits serve for both.

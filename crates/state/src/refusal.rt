@@ -6,56 +6,35 @@ ghost use Rattle.state.specs.Refusals.{number};
 #[derive(Clone, Copy)]
 pub enum Refusal {
     // because of the input
-    FrameTooShort,
-    UnknownKind,
-    FieldNotZero,
-    LengthTooLong,
-    DataMismatch,
-    CommandTooHigh,
-    WindowTooLong,
-    StoreWrongSize,
-    OutsideWindow,
-    BufferTooShort,
-    AddressTooHigh,
+    FrameTooShort = 1,
+    UnknownKind = 2,
+    FieldNotZero = 3,
+    LengthTooLong = 4,
+    DataMismatch = 5,
+    CommandTooHigh = 6,
+    WindowTooLong = 7,
+    StoreWrongSize = 8,
+    OutsideWindow = 9,
+    BufferTooShort = 10,
+    AddressTooHigh = 11,
     // because of the state
-    StateBroken,
-    CommandNotOpen,
-    CommandAlreadyOpen,
-    TooManyBytes,
-    TooManyRecords,
-    NoSuchRecord,
+    StateBroken = 20,
+    CommandNotOpen = 21,
+    CommandAlreadyOpen = 22,
+    TooManyBytes = 23,
+    TooManyRecords = 24,
+    NoSuchRecord = 25,
     // by the byte map alone, because of the input
-    WindowBeyondMap,
+    WindowBeyondMap = 30,
     // by the page walk alone, because of the input and of what its lists hold
-    TransferOutOfRange,
-    EntryMisaligned,
+    TransferOutOfRange = 31,
+    EntryMisaligned = 32,
 }
 
 impl Refusal {
     pub fn number(self) -> u8
         ensures { result ≡ number self }
     {
-        match self {
-            Refusal::FrameTooShort => 1,
-            Refusal::UnknownKind => 2,
-            Refusal::FieldNotZero => 3,
-            Refusal::LengthTooLong => 4,
-            Refusal::DataMismatch => 5,
-            Refusal::CommandTooHigh => 6,
-            Refusal::WindowTooLong => 7,
-            Refusal::StoreWrongSize => 8,
-            Refusal::OutsideWindow => 9,
-            Refusal::BufferTooShort => 10,
-            Refusal::AddressTooHigh => 11,
-            Refusal::StateBroken => 20,
-            Refusal::CommandNotOpen => 21,
-            Refusal::CommandAlreadyOpen => 22,
-            Refusal::TooManyBytes => 23,
-            Refusal::TooManyRecords => 24,
-            Refusal::NoSuchRecord => 25,
-            Refusal::WindowBeyondMap => 30,
-            Refusal::TransferOutOfRange => 31,
-            Refusal::EntryMisaligned => 32,
-        }
+        self as u8
     }
 }

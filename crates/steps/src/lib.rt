@@ -1,6 +1,9 @@
 // Steps in readable form, one a line: what a line says, and the frame that it stands for.
 #![tactic(auto)]
 
+ghost use Rattle.std.specs.Prelude.{◌≡◌};
+ghost use Rattle.steps.specs.declared.Unframed.TheVariants.{Bad, Refused};
+
 use fields::Fault;
 use state::Refusal;
 
@@ -10,12 +13,25 @@ mod line;
 pub use frame::frame_of;
 pub use line::parse;
 
-// What became of a line.
+// Why a line has no frame: it has a fault, or the writer of frames refuses its step.
 #[derive(Clone, Copy)]
-pub enum Framed {
-    Nothing,
-    // how many bytes the frame has
-    Frame(usize),
+pub enum Unframed {
     Bad(Fault),
     Refused(Refusal),
+}
+
+impl From<Fault> for Unframed {
+    ghost from_gives = { λ fault made. made ≡ Bad fault };
+
+    fn from(fault: Fault) -> Unframed {
+        Unframed::Bad(fault)
+    }
+}
+
+impl From<Refusal> for Unframed {
+    ghost from_gives = { λ why made. made ≡ Refused why };
+
+    fn from(why: Refusal) -> Unframed {
+        Unframed::Refused(why)
+    }
 }

@@ -292,8 +292,3 @@ module _ (rs : List Record) (l : List ℕ) (base : ℕ) (w : List ℕ) (m : Meet
         stretched m.first m.low top C.lower F.parted (omega arith) F.above F.below
         old bytes (omega arith) (subst (λ (at : ℕ). Done rs l base w m.high at top bytes) next F.done)
         ∙ ap (λ (at : ℕ). overwrite l at (map (sees_in rs l base w) (span m.low (m.high - m.low)))) place
-
-  pub filled_size : length (filled rs m l base w) ≡ length l
-  filled_size =
-      length_overwrite l (map (sees_in rs l base w) (span m.low (m.high - m.low))) m.below
-      (map_fits m.below m.low l (omega arith) (omega arith) C.wide)

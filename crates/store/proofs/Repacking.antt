@@ -8,7 +8,7 @@ use mathlib.Core.Bool.{Bool, true, false, cond}
 use lib.ListN.{length, take, drop, get_or, length-append, length-drop, length-map, take-append-drop}
 use lib.Seq.{length-take-le}
 use Rattle.octets.specs.Lists.{overwrite, part}
-use Rattle.octets.proofs.Overwrite.{length_overwrite, overwrite_below, overwrite_on}
+use Rattle.octets.proofs.Overwrite.{overwrite_below, overwrite_on}
 use Rattle.state.specs.declared.Record.{Record}
 use Rattle.state.specs.declared.Meeting.{Meeting}
 use Rattle.state.specs.Records.{held, place, span, addresses, total}
@@ -50,9 +50,6 @@ module _ (rs : List Record) (l : List ℕ) (base : ℕ) (w : List ℕ) (m : Meet
 
   pub held_fits : m.below + m.held ≤ length l
   held_fits = omega (arith, totals)
-
-  pub moved_size : length l₁ ≡ length l
-  moved_size = length_overwrite l tail (m.below + m.held + fresh) (omega (arith, tail_size, totals))
 
   -- the bytes of the joined record are seen as before
   seen : (x : ℕ) → m.low ≤ x → x < m.low + (m.high - m.low) → sees_in rs l₁ base w x ≡ sees_in rs l base w x

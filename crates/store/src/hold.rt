@@ -8,7 +8,7 @@ ghost use Rattle.state.specs.Limits.{command_words};
 ghost use Rattle.state.specs.Words.{command_in};
 
 use state::Meeting;
-use words::entries::{entry, wide};
+use words::entries::entry;
 
 // The one door to the host: the bytes of the source from the address `low` up to `high` go into the part. The source's first byte has the
 // address `base`. A fetch's source is the window, an own write's the bytes that it is given.
@@ -28,25 +28,21 @@ fn fill(part: &mut [u8], source: &[u8], base: usize, words: &[u16], m: Meeting, 
     requires { (length words.now ≡ command_words) × Fits (command_in words.now) m fresh (length part.old) base (length source.now) }
     ensures { part.new ≡ filled (records_in (command_in words.now)) m part.old base source.now }
 {
-    let first = m.first;
-    let low = m.low;
     let mut gap = fresh;
     let mut old = m.below + m.held;
     let mut top = m.high;
-    let mut k = m.last;
-    while first < k {
-        k = k - 1;
+    for k in (m.first..m.last).rev() {
         let r = entry(words, k);
-        let start = wide(r.start);
-        let len = wide(r.len);
+        let start = usize::from(r.start);
+        let len = usize::from(r.len);
         let past = start + len;
-        gap = gap - (top - past);
+        gap -= top - past;
         read_host(part, old + gap, source, base, past, top);
-        old = old - len;
+        old -= len;
         octets::move_up(part, old, len, gap);
         top = start;
     }
-    read_host(part, old, source, base, low, top);
+    read_host(part, old, source, base, m.low, top);
 }
 
 // The bytes behind the joined record, of which there are `behind`, move up, and the record is filled. Where nothing is fresh, every

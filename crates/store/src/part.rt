@@ -26,7 +26,7 @@ pub fn zero(store: &mut [u8], command: usize, size: usize)
     ensures { store.new ≡ cleared store.old command size }
 {
     let low = start(command);
-    octets::clear(&mut store[low..low + size]);
+    store[low..low + size].fill(0);
 }
 
 // Holds a span in it: the records of the command are replaced by those after the join. The source's first byte has the address

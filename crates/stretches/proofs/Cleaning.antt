@@ -4,13 +4,11 @@ use native.Mathlib.Omega.{arith}
 use native.Mathlib.Nat.{add-zero, zero-add}
 use mathlib.Core.Path.{◌≡◌, refl, ap, ap₂, sym, ◌∙◌}
 use mathlib.Core.List.{List, [], ◌∷◌, ◌++◌}
-use mathlib.Core.Bool.{Bool, true, false, cond, ◌&&◌, ◌||◌, and-true, and-false}
-use lib.Bits.{bit_or}
+use mathlib.Core.Bool.{Bool, true, false, ◌&&◌, ◌||◌, and-false}
 use lib.Dec.{eqb}
-use lib.ListN.{get_or, take, drop}
+use lib.ListN.{length, get_or, take, drop}
 use lib.Seq.{get_or-take, get_or-drop}
-use Rattle.octets.specs.Lists.{all}
-use Rattle.octets.proofs.Zero.{or_zero}
+use Rattle.octets.specs.Lists.{all, all_zero}
 use Rattle.state.specs.Records.{span}
 use Rattle.state.proofs.Places.{span_append}
 use Rattle.bits.specs.Bits.{bit, is_set}
@@ -58,22 +56,21 @@ clean_parts held values a m n =
     let test : ℕ → Bool = λ x. held x || eqb (get_or values x 0) 0 in
     ap (all test) (span_append a m n) ∙ all_append test (span a m) (span (a + m) n)
 
--- a loop that joins: none, and one value more
+-- none of them before the first
 pub clean_start : (held : ℕ → Bool) (values : List ℕ) → clean held values 0 0 ≡ true
 unfolding all span
 clean_start held values = refl
 
-pub clean_next :
-    (held : ℕ → Bool) (values : List ℕ) (or i : ℕ) → eqb or 0 ≡ clean held values 0 i
-    → eqb (bit_or or (cond (held i) 0 (get_or values i 0))) 0 ≡ clean held values 0 (i + 1)
+-- where none is held all values count
+pub clean_all : (values : List ℕ) → all_zero values ≡ clean (λ x. false) values 0 (length values)
 unfolding all span
-clean_next held values or i before =
-    or_zero or (cond (held i) 0 (get_or values i 0)) ∙ ap₂ (λ (b c : Bool). b && c) before (go (held i))
-    ∙ sym (clean_parts held values 0 i 1 ∙ ap (λ (k : ℕ). clean held values 0 i && clean held values k 1) (zero-add i))
-  where
-    go : (b : Bool) → eqb (cond b 0 (get_or values i 0)) 0 ≡ ((b || eqb (get_or values i 0) 0) && true)
-    go true = refl
-    go false = sym (and-true (eqb (get_or values i 0) 0))
+clean_all [] = refl
+clean_all (v ∷ values) =
+    ap (λ (b : Bool). eqb v 0 && b)
+    (clean_all values
+    ∙ clean_moved (λ x. false) (λ x. false) values (v ∷ values) 0 1 (length values) (λ j h.
+    let next : suc j ≡ 1 + j = omega arith in
+    (refl, ap (λ (k : ℕ). get_or values k 0) (zero-add j) ∙ ap (λ (k : ℕ). get_or (v ∷ values) k 0) next)))
 
 -- values lent as a part of all
 pub clean_lent : (f g : ℕ → Bool) (values : List ℕ) (x k : ℕ) → ((j : ℕ) → j < k → f j ≡ g (x + j))

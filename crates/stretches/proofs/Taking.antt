@@ -9,7 +9,7 @@ use lib.Pow.{shr-shr}
 use lib.ListN.{length, get_or, take, drop, length-map, length-take}
 use lib.Seq.{take_all}
 use Rattle.octets.specs.Lists.{overwrite, part}
-use Rattle.octets.proofs.Overwrite.{overwrite_same, overwrite_part, overwrite_none, overwrite_then, overwrite_above, length_overwrite}
+use Rattle.octets.proofs.Overwrite.{overwrite_same, overwrite_part, overwrite_none, overwrite_then, overwrite_above}
 use Rattle.state.specs.Records.{span}
 use Rattle.state.proofs.Places.{length_span, span_append, map_read}
 use Rattle.bits.specs.Bits.{bit, is_set}
@@ -47,9 +47,6 @@ module _ (held : ℕ → Bool) (values window : List ℕ) (a : ℕ) where
   -- the values once the first n of the span are taken
   abbrev pub passed : ℕ → List ℕ
   passed n = overwrite values a (taken held values window a n)
-
-  pub length_passed : (n : ℕ) → a + n ≤ length values → length (passed n) ≡ length values
-  length_passed n fits = length_overwrite values (taken held values window a n) a (omega (arith, length_taken n))
 
   -- a value that is not passed yet is as it was
   still : (n x : ℕ) → a + n ≤ length values → a + n ≤ x → get_or (passed n) x 0 ≡ get_or values x 0

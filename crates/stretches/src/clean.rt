@@ -1,6 +1,6 @@
 // Whether the values are zero where the addresses are not held.
 ghost use Rattle.std.specs.Prelude.{◌≡◌, false, length};
-ghost use Rattle.bits.specs.Bits.{bit, is_set, word_limit, map_limit};
+ghost use Rattle.bits.specs.Bits.{bit, is_set, map_limit};
 ghost use Rattle.stretches.specs.Values.{clean, Stretch};
 
 use crate::stretch::alike;
@@ -10,13 +10,7 @@ use crate::stretch::alike;
 fn clean_none(values: &[u8]) -> bool
     ensures { result ≡ clean (λ x. false) values.now 0 (length values.now) }
 {
-    let mut or: u8 = 0;
-    let mut i = 0;
-    while i < values.len() {
-        or = or | values[i];
-        i = i + 1;
-    }
-    or == 0
+    values.iter().fold(0, |or, value| or | value) == 0
 }
 
 // The values of a stretch, of which the lowest bit tells whether it is held. Where it is, any values may stand.
@@ -36,13 +30,14 @@ fn clean_stretches(bits: u64, values: &[u8]) -> bool
     ensures { result ≡ clean (bit bits) values.now 0 64 }
 {
     let mut x = 0;
+    // a while, since a step is as long as its stretch
     while x < 64 {
         let rest = bits >> x;
         let k = alike(rest, 64 - x);
         if !clean_stretch(rest, &values[x..x + k]) {
             return false;
         }
-        x = x + k;
+        x += k;
     }
     true
 }
@@ -59,17 +54,14 @@ fn clean_word(bits: u64, values: &[u8]) -> bool
 }
 
 // The values of the whole map, word after word.
-pub fn clean(words: &[u64], values: &[u8]) -> bool
-    requires { (length words.now ≡ word_limit) × (length values.now ≡ map_limit) }
+pub fn clean(words: &[u64; bits::WORDS], values: &[u8; bits::ADDRESSES]) -> bool
     ensures { result ≡ clean (is_set words.now) values.now 0 map_limit }
 {
-    let mut i = 0;
-    while i < 64 {
+    for i in 0..64 {
         let low = 64 * i;
         if !clean_word(words[i], &values[low..low + 64]) {
             return false;
         }
-        i = i + 1;
     }
     true
 }

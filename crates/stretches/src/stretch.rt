@@ -1,14 +1,12 @@
 // A stretch: addresses one behind the other, within a word of the map, that are all held or all not.
 ghost use Rattle.stretches.specs.Values.{Alike};
 
-use numbers::lesser;
-
 // So many of the lowest bits are like the lowest, at most n.
 pub(crate) fn alike(bits: u64, n: usize) -> usize
     ensures { Alike bits n result }
 {
     if bits % 2 == 1 {
-        return lesser(u64::trailing_zeros(!bits) as usize, n);
+        return (u64::trailing_zeros(!bits) as usize).min(n);
     }
-    lesser(u64::trailing_zeros(bits) as usize, n)
+    (u64::trailing_zeros(bits) as usize).min(n)
 }

@@ -1,7 +1,7 @@
 // The bytes of a span come to be held: those that were not are read from the window.
 ghost use Rattle.std.specs.Prelude.{◌≡◌, ◌+◌, ◌≤◌, length};
 ghost use Rattle.octets.specs.Lists.{overwrite, part};
-ghost use Rattle.bits.specs.Bits.{is_set, word_limit, map_limit};
+ghost use Rattle.bits.specs.Bits.{is_set, map_limit};
 ghost use Rattle.stretches.specs.Values.{bits_from, taken, Stretch};
 
 use crate::stretch::alike;
@@ -26,16 +26,23 @@ fn take_stretch(bits: u64, values: &mut [u8], window: &[u8], low: usize, n: usiz
 }
 
 // The bytes of the n addresses from `low` on, stretch after stretch.
-pub fn take(words: &[u64], values: &mut [u8], window: &[u8], low: usize, n: usize)
-    requires { (length words.now ≡ word_limit) × (low + n ≤ map_limit) × (length values.old ≡ map_limit) × (low + n ≤ length window.now) }
+pub fn take(
+    words: &[u64; bits::WORDS],
+    values: &mut [u8; bits::ADDRESSES],
+    window: &[u8],
+    low: usize,
+    n: usize,
+)
+    requires { (low + n ≤ map_limit) × (low + n ≤ length window.now) }
     ensures { values.new ≡ overwrite values.old low (taken (is_set words.now) values.old window.now low n) }
 {
     let mut i = 0;
+    // a while, since a step is as long as its stretch
     while i < n {
         let x = low + i;
         let rest = words[x / 64] >> (x % 64);
-        let k = alike(rest, numbers::lesser(64 - x % 64, n - i));
+        let k = alike(rest, (64 - x % 64).min(n - i));
         take_stretch(rest, values, window, x, k);
-        i = i + k;
+        i += k;
     }
 }

@@ -1,5 +1,5 @@
 // One byte.
-ghost use Rattle.std.specs.Prelude.{◌≡◌, [], ◌∷◌, ◌<◌};
+ghost use Rattle.std.specs.Prelude.{[], ◌∷◌};
 ghost use Rattle.octets.specs.Text.{Puts};
 
 pub fn put_byte(out: &mut [u8], at: usize, byte: u8) -> usize
@@ -11,11 +11,4 @@ pub fn put_byte(out: &mut [u8], at: usize, byte: u8) -> usize
     } else {
         out.len()
     }
-}
-
-// A byte as a number.
-pub fn wide(byte: u8) -> usize
-    ensures { (result ≡ byte) × (result < 256) }
-{
-    byte as usize
 }

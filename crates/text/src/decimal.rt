@@ -13,16 +13,16 @@ pub fn put_decimal(out: &mut [u8], at: usize, n: usize) -> usize
     ensures { Puts out.old at (decimal n) result out.new }
 {
     let mut digits = [0u8; DIGITS];
-    let mut start = DIGITS;
     let mut rest = n;
-    while 10 <= rest {
-        start -= 1;
+    for start in (0..DIGITS).rev() {
         digits[start] = digit(rest % 10);
-        rest = rest / 10;
+        if rest < 10 {
+            return put(out, at, &digits[start..]);
+        }
+        rest /= 10;
     }
-    start -= 1;
-    digits[start] = digit(rest);
-    put(out, at, &digits[start..])
+    // No number of 64 bits has more digits than there are places.
+    unreachable!()
 }
 
 fn digit(n: usize) -> u8

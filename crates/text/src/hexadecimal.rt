@@ -4,7 +4,6 @@ ghost use Rattle.octets.specs.Lists.{overwrite};
 ghost use Rattle.octets.specs.Text.{Puts};
 ghost use Rattle.text.specs.Hexadecimal.{hex_digits, hex_pair, hexadecimal};
 
-use numbers::lesser;
 use octets::put;
 
 // The sixteen digits, in order.
@@ -17,13 +16,13 @@ pub fn put_hex(out: &mut [u8], at: usize, bytes: &[u8]) -> usize
     if out.len() <= at {
         return out.len();
     }
-    let whole = lesser(bytes.len(), (out.len() - at) / 2);
+    let whole = bytes.len().min((out.len() - at) / 2);
     put_pairs(&mut out[at..], &bytes[..whole]);
     let next = at + 2 * whole;
-    if whole < bytes.len() {
-        return put_pair(out, next, bytes[whole]);
+    match bytes.get(whole) {
+        Some(byte) => put_pair(out, next, *byte),
+        None => next,
     }
-    next
 }
 
 // All the bytes, at the front of a buffer with room for them.
@@ -32,12 +31,10 @@ fn put_pairs(out: &mut [u8], bytes: &[u8])
     ensures { out.new ≡ overwrite out.old 0 (hexadecimal bytes.now) }
 {
     let digits = DIGITS;
-    let mut i = 0;
-    while i < bytes.len() {
-        let pair = hex_pair(&digits, bytes[i]);
+    for (i, byte) in bytes.iter().enumerate() {
+        let pair = hex_pair(&digits, *byte);
         out[2 * i] = pair[0];
         out[2 * i + 1] = pair[1];
-        i += 1;
     }
 }
 
@@ -55,5 +52,7 @@ fn hex_pair(digits: &[u8; 16], byte: u8) -> [u8; 2]
     requires { digits.now ≡ hex_digits }
     ensures { result ≡ hex_pair byte }
 {
-    [digits[(byte / 16) as usize], digits[(byte % 16) as usize]]
+    let high = usize::from(byte / 16);
+    let low = usize::from(byte % 16);
+    [digits[high], digits[low]]
 }

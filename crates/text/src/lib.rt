@@ -6,6 +6,6 @@ mod byte;
 mod decimal;
 mod hexadecimal;
 
-pub use byte::{put_byte, wide};
+pub use byte::put_byte;
 pub use decimal::put_decimal;
 pub use hexadecimal::put_hex;

@@ -9,65 +9,28 @@ ghost use Rattle.textlike.specs.Texts.{is_text, is_mark, looks_like_text};
 fn is_text(byte: u8) -> bool
     ensures { result ≡ is_text byte }
 {
-    if byte == b'\t' {
-        return true;
-    }
-    if byte == b'\n' {
-        return true;
-    }
-    if byte == b'\r' {
-        return true;
-    }
-    if byte < b' ' {
-        return false;
-    }
-    byte != 0x7f
+    matches!(byte, b'\t' | b'\n' | b'\r' | b' '..=b'~' | 0x80..)
 }
 
 fn is_all_text(bytes: &[u8]) -> bool
     ensures { result ≡ all is_text bytes.now }
 {
-    let mut i = 0;
-    while i < bytes.len() {
-        if !is_text(bytes[i]) {
-            return false;
-        }
-        i += 1;
-    }
-    true
+    bytes.iter().all(|byte| is_text(*byte))
 }
 
-fn byte_at(bytes: &[u8], i: usize) -> u8
-    ensures { result ≡ get_or bytes.now i 0 }
+// A byte order mark at the front, of UTF-16 or of UTF-8.
+fn is_marked(bytes: &[u8]) -> bool
+    ensures { result ≡ is_mark (get_or bytes.now 0 0) (get_or bytes.now 1 0) (get_or bytes.now 2 0) }
 {
-    if i < bytes.len() { bytes[i] } else { 0 }
-}
-
-// A byte order mark, of UTF-16 or of UTF-8.
-fn is_mark(first: u8, second: u8, third: u8) -> bool
-    ensures { result ≡ is_mark first second third }
-{
-    if first == 0xff {
-        return second == 0xfe;
-    }
-    if first == 0xfe {
-        return second == 0xff;
-    }
-    if first != 0xef {
-        return false;
-    }
-    if second != 0xbb {
-        return false;
-    }
-    third == 0xbf
+    matches!(
+        bytes,
+        [0xff, 0xfe, ..] | [0xfe, 0xff, ..] | [0xef, 0xbb, 0xbf, ..]
+    )
 }
 
 // It starts with a byte order mark, or is text alone.
 pub fn looks_like_text(bytes: &[u8]) -> bool
     ensures { result ≡ looks_like_text bytes.now }
 {
-    if is_mark(byte_at(bytes, 0), byte_at(bytes, 1), byte_at(bytes, 2)) {
-        return true;
-    }
-    is_all_text(bytes)
+    is_marked(bytes) || is_all_text(bytes)
 }

@@ -5,25 +5,23 @@ use mathlib.Core.Path.{◌≡◌, ap, ◌∙◌}
 use mathlib.Core.List.{List, [], ◌∷◌, map}
 use Rattle.octets.specs.Lists.{overwrite}
 use Rattle.state.specs.declared.refusal.Refusal.{Refusal}
-use Rattle.state.specs.declared.answer.WalkAnswer.TheVariants.{Done, Refused}
 use Rattle.state.specs.Records.{span}
 use Rattle.state.specs.Verdict.{replied, accepted}
 use Rattle.prp.specs.Pages.{Walk, offset, reach, touched, needed, share_in, span_lengths}
 use Rattle.prp.specs.Entries.{entries_behind}
-use Rattle.listing.specs.declared.Gathered.{Gathered}
-use Rattle.listing.specs.declared.Gathered.TheVariants.{Entries, Refused as NotGathered}
+use Rattle.std.specs.Prelude.{Result, Ok, Err}
 use Rattle.walk.specs.Parts.{Concludes}
 
-module _ (g : Gathered) (w : Walk) (scratch addresses lengths : List ℕ) where
-  pub not_gathered : (why : Refusal) → g ≡ NotGathered why → Concludes g w scratch addresses lengths (Refused why) addresses lengths
+module _ (g : Result ℕ Refusal) (w : Walk) (scratch addresses lengths : List ℕ) where
+  pub not_gathered : (why : Refusal) → g ≡ Err why → Concludes g w scratch addresses lengths (Err why) addresses lengths
   unfolding accepted
   not_gathered why is = record { answer = rw is; starts = rw is; sizes = rw is }
 
   pub spans_put :
-      (n look : ℕ) (addresses' lengths' : List ℕ) → g ≡ Entries look → n ≡ needed w → 0 < w.transfer
+      (n look : ℕ) (addresses' lengths' : List ℕ) → g ≡ Ok look → n ≡ needed w → 0 < w.transfer
       → addresses' ≡ overwrite addresses 0 (w.prp1 ∷ entries_behind w.prp2 n scratch)
       → lengths' ≡ overwrite lengths 0 (map (share_in (offset w) (reach w)) (span 0 (n + 1)))
-      → Concludes g w scratch addresses lengths (Done (n + 1) look) addresses' lengths'
+      → Concludes g w scratch addresses lengths (Ok (record { spans = n + 1; looked = look })) addresses' lengths'
   unfolding accepted span_lengths
   spans_put n look addresses' lengths' is count some starts sizes =
       let all : n + 1 ≡ touched w = omega (arith, count) in

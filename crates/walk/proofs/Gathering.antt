@@ -5,6 +5,8 @@ use mathlib.Core.Path.{◌≡◌, ap, sym, ◌∙◌}
 use mathlib.Core.List.{List, [], ◌∷◌}
 use mathlib.Core.Bool.{Bool, true, false, false≢true, cond}
 use lib.Dec.{eqb}
+use Rattle.std.specs.Prelude.{Result, Ok, Err}
+use Rattle.state.specs.declared.refusal.Refusal.{Refusal}
 use borrow.Author.Tests.{ltb-true}
 use Rattle.state.specs.declared.refusal.Refusal.TheVariants.{EntryMisaligned}
 use Rattle.state.specs.Verdict.{Reply, accepted, verdict}
@@ -12,8 +14,6 @@ use Rattle.cache.specs.Runs.{Machine, given, ran}
 use Rattle.prp.specs.Pages.{Walk, page_size, needed, with_list}
 use Rattle.prp.specs.Entries.{entries_behind, is_multiple, wrong_multiple, judged, ◌then◌}
 use Rattle.prp.specs.Walk.{Asks, behind_says, page_entries, looked_behind, asks_of}
-use Rattle.listing.specs.declared.Gathered.{Gathered}
-use Rattle.listing.specs.declared.Gathered.TheVariants.{Entries, Refused}
 use Rattle.prp.proofs.Listed.{entries_none, looked_none, looked_lists}
 use Rattle.prp.proofs.Said.{said_if}
 use Rattle.prp.proofs.Reading.{behind_few, behind_some}
@@ -27,7 +27,7 @@ module _ (words store : List ℕ) (w : Walk) where
   abbrev asks : Asks
   asks = asks_of m
 
-  pub wrong_first : (scratch : List ℕ) → is_multiple 4 w.prp1 ≡ false → Gathers words store w (Refused EntryMisaligned) words store scratch
+  pub wrong_first : (scratch : List ℕ) → is_multiple 4 w.prp1 ≡ false → Gathers words store w (Err EntryMisaligned) words store scratch
   unfolding verdict accepted entries_make ran
   wrong_first scratch wrong = record {
     answer = rw wrong;
@@ -46,7 +46,7 @@ module _ (words store : List ℕ) (w : Walk) where
     makes_if b e = rw (right, e)
 
     pub by_lists :
-        (r : Gathered) (words' store' scratch' : List ℕ) → with_list w ≡ true → Lists words store w r words' store' scratch'
+        (r : Result ℕ Refusal) (words' store' scratch' : List ℕ) → with_list w ≡ true → Lists words store w r words' store' scratch'
         → Gathers words store w r words' store' scratch'
     by_lists r words' store' scratch' listed L =
         let some : 1 < needed w = ltb-true 1 (needed w) listed in
@@ -76,11 +76,11 @@ module _ (words store : List ℕ) (w : Walk) where
       none_looked : 0 ≡ looked_behind asks w
       none_looked = sym (looked_none asks w unlisted)
 
-      pub none_needed : needed w ≡ 0 → Gathers words store w (Entries 0) words store scratch
+      pub none_needed : needed w ≡ 0 → Gathers words store w (Ok 0) words store scratch
       unfolding verdict
       none_needed none = record { answer = sym (said_second 0 none); machine = left; entries = λ e. behind; looked = λ e. none_looked }
 
-      pub second_wrong : needed w ≡ 1 → is_multiple page_size w.prp2 ≡ false → Gathers words store w (Refused EntryMisaligned) words store scratch
+      pub second_wrong : needed w ≡ 1 → is_multiple page_size w.prp2 ≡ false → Gathers words store w (Err EntryMisaligned) words store scratch
       unfolding verdict accepted
       second_wrong one wrong = record {
         answer = sym (said_second 1 one ∙ rw wrong);
@@ -89,6 +89,6 @@ module _ (words store : List ℕ) (w : Walk) where
         looked = λ e. absurd (false≢true e);
       }
 
-      pub second_right : needed w ≡ 1 → is_multiple page_size w.prp2 ≡ true → Gathers words store w (Entries 0) words store scratch
+      pub second_right : needed w ≡ 1 → is_multiple page_size w.prp2 ≡ true → Gathers words store w (Ok 0) words store scratch
       unfolding verdict
       second_right one fine = record { answer = sym (said_second 1 one ∙ rw fine); machine = left; entries = λ e. behind; looked = λ e. none_looked }

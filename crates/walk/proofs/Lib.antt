@@ -1,4 +1,3 @@
-pub mod Early
 pub mod Gathering
 pub mod Concluding
 pub mod Walking

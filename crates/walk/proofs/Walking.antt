@@ -3,11 +3,11 @@ use Prim.Native.Nat.{ℕ}
 use mathlib.Core.Path.{◌≡◌, refl, ap, sym, ◌∙◌}
 use mathlib.Core.List.{List, [], ◌∷◌}
 use mathlib.Core.Bool.{Bool, true, false, cond, not, ◌&&◌}
+use Rattle.std.specs.Prelude.{Result, Err}
 use lib.ListN.{length, replicate}
 use Rattle.octets.specs.Lists.{overwrite}
 use Rattle.state.specs.declared.refusal.Refusal.{Refusal}
-use Rattle.state.specs.declared.answer.WalkAnswer.{WalkAnswer}
-use Rattle.state.specs.declared.answer.WalkAnswer.TheVariants.{Refused}
+use Rattle.state.specs.declared.answer.WalkCounts.{WalkCounts}
 use Rattle.state.specs.Answers.{walk_reply}
 use Rattle.state.specs.Refusals.{number}
 use Rattle.state.specs.Verdict.{Reply, refused, replied, accepted, Check, ◌⇒◌, verdict}
@@ -18,7 +18,6 @@ use Rattle.prp.specs.Walk.{Asks, got_one, list_one, list_two, behind_says, page_
 use Rattle.prp.specs.Walk.{walk_says, walk_fetches, walk_after, walk_scratch, walk_addresses, walk_lengths}
 use Rattle.prp.proofs.Answers.{then_goes_on, then_assoc, then_replies, then_same}
 use Rattle.prp.proofs.Refused.{refused_early}
-use Rattle.listing.specs.declared.Gathered.{Gathered}
 use Rattle.listing.specs.Page.{gathered_reply, looked_by}
 use Rattle.lists.specs.Lists.{asked, lists_make}
 use Rattle.walk.specs.Parts.{entries_make, Gathers, Concludes}
@@ -65,7 +64,7 @@ module _ (words store : List ℕ) (c prp1 prp2 transfer : ℕ) (window scratch a
   abbrev a : Walk
   a = asked c prp1 prp2 transfer window
 
-  pub refused_walk : (why : Refusal) → refused (number why) ≡ judged (walk_checks m w) → Walks words store w (Refused why) words store scratch addresses lengths
+  pub refused_walk : (why : Refusal) → refused (number why) ≡ judged (walk_checks m w) → Walks words store w (Err why) words store scratch addresses lengths
   unfolding accepted walk_says answer_by
   refused_walk why said =
       let N = refused_early m w (ap accepted (sym said)) in
@@ -81,8 +80,8 @@ module _ (words store : List ℕ) (c prp1 prp2 transfer : ℕ) (window scratch a
         lengths = sym N.lists.lengths;
       }
 
-  module _ (passed : accepted (judged (walk_checks m w)) ≡ true) (g : Gathered) (words' store' scratch' : List ℕ) (sized : length scratch' ≡ length scratch)
-      (G : Gathers words store a g words' store' scratch') (r : WalkAnswer) (addresses' lengths' : List ℕ)
+  module _ (passed : accepted (judged (walk_checks m w)) ≡ true) (g : Result ℕ Refusal) (words' store' scratch' : List ℕ) (sized : length scratch' ≡ length scratch)
+      (G : Gathers words store a g words' store' scratch') (r : Result WalkCounts Refusal) (addresses' lengths' : List ℕ)
       (C : Concludes g (asked 0 prp1 prp2 transfer []) scratch' addresses lengths r addresses' lengths') where
     abbrev spans : Reply
     spans = replied (touched w ∷ looked_behind (asks_of m) w ∷ [])

@@ -1,8 +1,9 @@
 -- The parts of a page walk as the code makes them: what is judged before PRP1, all entries from PRP1 on, and the spans.
-use Rattle.std.specs.Prelude.{ℕ, ◌≡◌, List, [], ◌∷◌, true, cond, ◌&&◌, ◌||◌, ltb}
+use Rattle.std.specs.Prelude.{ℕ, ◌≡◌, List, [], ◌∷◌, true, cond, ◌&&◌, ◌||◌, ltb, Result}
 use Rattle.octets.specs.Lists.{overwrite}
 use Rattle.state.specs.declared.refusal.Refusal.TheVariants.{BufferTooShort}
-use Rattle.state.specs.declared.answer.WalkAnswer.{WalkAnswer}
+use Rattle.state.specs.declared.answer.WalkCounts.{WalkCounts}
+use Rattle.state.specs.declared.refusal.Refusal.{Refusal}
 use Rattle.state.specs.Answers.{walk_reply}
 use Rattle.state.specs.Refusals.{number}
 use Rattle.state.specs.State.{State}
@@ -12,7 +13,6 @@ use Rattle.cache.specs.Runs.{Call, given, ran}
 use Rattle.prp.specs.Pages.{Walk, scratch_least, spans_most, touched, needed, span_lengths, with_list}
 use Rattle.prp.specs.Entries.{entries_behind, wrong_multiple, judged, ◌then◌}
 use Rattle.prp.specs.Walk.{Asks, transfer_wrong, behind_says, page_entries, looked_behind, asks_of}
-use Rattle.listing.specs.declared.Gathered.{Gathered}
 use Rattle.listing.specs.Page.{gathered_reply, looked_by}
 use Rattle.lists.specs.Lists.{lists_make}
 
@@ -28,7 +28,7 @@ unfoldable pub entries_make : Asks → Walk → List Call
 entries_make asks w = cond (accepted (judged (wrong_multiple 4 w.prp1 ∷ [])) && with_list w) (lists_make asks w) []
 
 -- The entries from PRP1 on, and the records that were looked at to fetch them.
-pub record Gathers (words store : List ℕ) (w : Walk) (r : Gathered) (words' store' scratch' : List ℕ) : Type 0 where
+pub record Gathers (words store : List ℕ) (w : Walk) (r : Result ℕ Refusal) (words' store' scratch' : List ℕ) : Type 0 where
   pub answer : gathered_reply r ≡ (judged (wrong_multiple 4 w.prp1 ∷ []) then behind_says (asks_of (given words store)) w)
   pub machine : given words' store' ≡ ran (given words store) (entries_make (asks_of (given words store)) w)
   pub entries :
@@ -36,7 +36,7 @@ pub record Gathers (words store : List ℕ) (w : Walk) (r : Gathered) (words' st
   pub looked : accepted (gathered_reply r) ≡ true → looked_by r ≡ looked_behind (asks_of (given words store)) w
 
 -- The lists that the walk was lent: the spans at their front, if the entries were gathered.
-pub record Concludes (gathered : Gathered) (w : Walk) (scratch addresses lengths : List ℕ) (r : WalkAnswer) (addresses' lengths' : List ℕ) : Type 0 where
+pub record Concludes (gathered : Result ℕ Refusal) (w : Walk) (scratch addresses lengths : List ℕ) (r : Result WalkCounts Refusal) (addresses' lengths' : List ℕ) : Type 0 where
   pub answer : walk_reply r ≡ (gathered_reply gathered then replied (touched w ∷ looked_by gathered ∷ []))
   pub starts :
       addresses'

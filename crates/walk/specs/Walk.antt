@@ -1,6 +1,7 @@
 -- The page walk as the code makes it: the call as a whole.
-use Rattle.std.specs.Prelude.{ℕ, ◌≡◌, List}
-use Rattle.state.specs.declared.answer.WalkAnswer.{WalkAnswer}
+use Rattle.std.specs.Prelude.{ℕ, ◌≡◌, List, Result}
+use Rattle.state.specs.declared.answer.WalkCounts.{WalkCounts}
+use Rattle.state.specs.declared.refusal.Refusal.{Refusal}
 use Rattle.state.specs.Answers.{walk_reply}
 use Rattle.cache.specs.Runs.{given}
 use Rattle.prp.specs.Pages.{Walk, scratch_least}
@@ -21,7 +22,7 @@ lent c prp1 prp2 transfer window scratch addresses lengths = record {
 }
 
 -- the call: its answer, and the state and every buffer after it, refused or not
-pub record Walks (words store : List ℕ) (w : Walk) (r : WalkAnswer) (words' store' scratch' addresses' lengths' : List ℕ) : Type 0 where
+pub record Walks (words store : List ℕ) (w : Walk) (r : Result WalkCounts Refusal) (words' store' scratch' addresses' lengths' : List ℕ) : Type 0 where
   pub answer : walk_reply r ≡ walk_says (given words store) w
   pub machine : given words' store' ≡ walk_after (given words store) w
   pub scratch : scratch' ≡ walk_scratch (given words store) w

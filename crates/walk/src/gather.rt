@@ -3,7 +3,6 @@ ghost use Rattle.std.specs.Prelude.{◌≤◌, ◌<◌, length};
 ghost use Rattle.lists.specs.Lists.{asked};
 ghost use Rattle.walk.specs.Parts.{Gathers};
 
-use listing::Gathered;
 use lists::gather_lists;
 use pages::spans::behind_first;
 use state::{CacheState, Refusal};
@@ -17,22 +16,22 @@ pub(crate) fn gather(
     prp1: u64,
     prp2: u64,
     transfer: usize,
-) -> Gathered
+) -> Result<usize, Refusal>
     requires { (128 ≤ length scratch.old) × (0 < transfer) × (transfer ≤ 65536) }
     ensures { Gathers state.old store.old (asked command prp1 prp2 transfer window.now) result state.new store.new scratch.new }
 {
     if prp1 % 4 != 0 {
-        return Gathered::Refused(Refusal::EntryMisaligned);
+        return Err(Refusal::EntryMisaligned);
     }
     let behind = behind_first(prp1, transfer);
     if 1 < behind {
         return gather_lists(state, store, window, scratch, command, prp1, prp2, transfer);
     }
     if behind == 0 {
-        return Gathered::Entries(0);
+        return Ok(0);
     }
     if prp2 % 4096 != 0 {
-        return Gathered::Refused(Refusal::EntryMisaligned);
+        return Err(Refusal::EntryMisaligned);
     }
-    Gathered::Entries(0)
+    Ok(0)
 }

@@ -14,11 +14,11 @@ ghost use Rattle.walk.specs.Walk.{lent, Walks};
 
 use crate::gather::gather;
 use crate::spans::conclude;
-use admission::admit::{Admission, admit};
-use octets::clear;
-use state::{CacheState, Refusal, WalkAnswer};
+use admission::admit::admit;
+use state::{CacheState, Refusal, WalkCounts};
 
 // 31, 10, and then what a fetch of no bytes is judged by: 6, 7, 8, 20, 21.
+#[tactic(auto, unfolding(state::specs::Verdict::verdict))]
 fn judge(
     state: &[u16; CacheState::WORDS],
     store_len: usize,
@@ -28,23 +28,14 @@ fn judge(
     length_places: usize,
     command: usize,
     transfer: usize,
-) -> Admission
+) -> Result<(), Refusal>
     ensures { admission_reply result ≡ judged (early_checks (state_of state.now) store_len window_len scratch_len address_places length_places command transfer) }
 {
-    if transfer == 0 {
-        return Admission::Barred(Refusal::TransferOutOfRange);
+    if transfer == 0 || 65536 < transfer {
+        return Err(Refusal::TransferOutOfRange);
     }
-    if 65536 < transfer {
-        return Admission::Barred(Refusal::TransferOutOfRange);
-    }
-    if scratch_len < 128 {
-        return Admission::Barred(Refusal::BufferTooShort);
-    }
-    if address_places < 17 {
-        return Admission::Barred(Refusal::BufferTooShort);
-    }
-    if length_places < 17 {
-        return Admission::Barred(Refusal::BufferTooShort);
+    if scratch_len < 128 || address_places < 17 || length_places < 17 {
+        return Err(Refusal::BufferTooShort);
     }
     admit(state, store_len, window_len, 0, command, 0, 0)
 }
@@ -60,10 +51,10 @@ pub fn walk(
     prp1: u64,
     prp2: u64,
     transfer: usize,
-) -> WalkAnswer
+) -> Result<WalkCounts, Refusal>
     ensures { Walks state.old store.old (lent command prp1 prp2 transfer window.now scratch.old addresses.old lengths.old) result state.new store.new scratch.new addresses.new lengths.new }
 {
-    let judged = judge(
+    judge(
         state,
         store.len(),
         window.len(),
@@ -72,12 +63,9 @@ pub fn walk(
         lengths.len(),
         command,
         transfer,
-    );
-    if let Admission::Barred(why) = judged {
-        return WalkAnswer::Refused(why);
-    }
+    )?;
     let gathered = gather(state, store, window, scratch, command, prp1, prp2, transfer);
     let answer = conclude(gathered, scratch, addresses, lengths, prp1, prp2, transfer);
-    clear(scratch);
+    scratch.fill(0);
     answer
 }

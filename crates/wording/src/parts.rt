@@ -1,18 +1,10 @@
 // The parts of a span that is fetched or written: addresses that were not held before, and those that a record held.
-ghost use Rattle.std.specs.Prelude.{◌<◌};
 ghost use Rattle.octets.specs.Text.{Puts};
 ghost use Rattle.wording.specs.Words.{span};
 
-use numbers::{greater, lesser, minus};
 use octets::put;
-use state::{CacheState, ShowAnswer};
+use state::CacheState;
 use text::put_decimal;
-
-pub(crate) fn wide(n: u16) -> usize
-    ensures { result < 65536 }
-{
-    n as usize
-}
 
 // An address and a length.
 pub(crate) fn put_span(line: &mut [u8], at: usize, start: usize, len: usize) -> usize
@@ -21,31 +13,6 @@ pub(crate) fn put_span(line: &mut [u8], at: usize, start: usize, len: usize) -> 
     let next = put_decimal(line, at, start);
     let next = put(line, next, b"+");
     put_decimal(line, next, len)
-}
-
-// Record i of a command, if there is one.
-#[derive(Drop)]
-pub(crate) struct Found {
-    pub there: bool,
-    pub start: usize,
-    pub len: usize,
-}
-
-pub(crate) fn find(state: &[u16; CacheState::WORDS], command: usize, i: usize) -> Found
-    ensures { (result.start < 65536) × (result.len < 65536) }
-{
-    match show::show(state, command, i) {
-        ShowAnswer::Record { start, len } => Found {
-            there: true,
-            start: wide(start),
-            len: wide(len),
-        },
-        ShowAnswer::Refused(_) => Found {
-            there: false,
-            start: 0,
-            len: 0,
-        },
-    }
 }
 
 fn put_comma(line: &mut [u8], at: usize, from: usize) -> usize {
@@ -77,11 +44,11 @@ fn put_part(
     from: usize,
     to: usize,
 ) -> usize {
-    let to = lesser(lesser(to, bytes.len()), CacheState::TRANSFER);
+    let to = to.min(bytes.len()).min(CacheState::TRANSFER);
     if to <= from {
         return at;
     }
-    let start = lesser(address, CacheState::WINDOW) + from;
+    let start = address.min(CacheState::WINDOW) + from;
     let next = put_kind(line, at, kind, from);
     let next = put_span(line, next, start, to - from);
     put_bytes(line, next, &bytes[from..to])
@@ -100,18 +67,17 @@ fn put_all(
 ) -> usize {
     let mut next = at;
     let mut done = 0;
-    let mut i = 0;
-    while i < CacheState::RECORDS {
-        let r = find(before, command, i);
-        if !r.there {
+    for i in 0..CacheState::RECORDS {
+        let Ok(record) = show::show(before, command, i) else {
             break;
-        }
-        let from = greater(done, minus(r.start, address));
-        let to = greater(done, minus(r.start + r.len, address));
+        };
+        let start = usize::from(record.start);
+        let end = start + usize::from(record.len);
+        let from = done.max(start.saturating_sub(address));
+        let to = done.max(end.saturating_sub(address));
         next = put_part(line, next, unheld, address, bytes, done, from);
         next = put_part(line, next, held, address, bytes, from, to);
         done = to;
-        i += 1;
     }
     put_part(line, next, unheld, address, bytes, done, bytes.len())
 }
@@ -128,7 +94,7 @@ pub(crate) fn put_parts(
     held: &[u8],
 ) -> usize {
     let next = put(line, at, b": ");
-    if bytes.len() == 0 {
+    if bytes.is_empty() {
         return put(line, next, b"nothing");
     }
     put_all(line, next, before, command, address, bytes, unheld, held)

@@ -4,12 +4,12 @@ ghost use Rattle.octets.specs.Text.{ascii, Puts};
 ghost use Rattle.text.specs.Decimal.{decimal};
 ghost use Rattle.wording.specs.Words.{span, act, asked, turned_away};
 
-use crate::parts::{find, put_parts, put_span};
+use crate::parts::{put_parts, put_span};
 use counting::put_count;
 use frames::Step;
-use loglines::Answer;
+use loglines::Numbers;
 use octets::put;
-use state::{CacheState, Refusal};
+use state::{CacheState, Record, Refusal};
 use text::put_decimal;
 
 fn put_command(line: &mut [u8], at: usize, command: usize) -> usize
@@ -74,7 +74,7 @@ pub(crate) fn put_refused(line: &mut [u8], at: usize, refusal: Refusal) -> usize
     ensures { Puts line.old at (turned_away refusal) result line.new }
 {
     let next = put(line, at, b": refused (");
-    let next = put_decimal(line, next, text::wide(refusal.number()));
+    let next = put_decimal(line, next, usize::from(refusal.number()));
     let next = put(line, next, b"): ");
     reasons::put_reason(line, next, refusal)
 }
@@ -84,7 +84,7 @@ pub(crate) fn put_done(
     line: &mut [u8],
     at: usize,
     step: Step,
-    answer: Answer,
+    numbers: Numbers,
     data: &[u8],
     before: &[u16; CacheState::WORDS],
     state: &[u16; CacheState::WORDS],
@@ -109,7 +109,7 @@ pub(crate) fn put_done(
             );
             put_records(line, next, state, command)
         }
-        Step::End { .. } => put_held(line, at, answer),
+        Step::End { .. } => put_held(line, at, numbers),
         Step::HostWrite { .. } => put_data(line, at, data),
         Step::OwnWrite {
             command,
@@ -122,9 +122,9 @@ pub(crate) fn put_done(
     }
 }
 
-fn put_held(line: &mut [u8], at: usize, answer: Answer) -> usize {
-    match answer {
-        Answer::Counts(records, bytes) => {
+fn put_held(line: &mut [u8], at: usize, numbers: Numbers) -> usize {
+    match numbers {
+        Numbers::Two(records, bytes) => {
             let next = put(line, at, b": ");
             let next = put_count(line, next, records, b"record");
             let next = put(line, next, b", ");
@@ -136,7 +136,7 @@ fn put_held(line: &mut [u8], at: usize, answer: Answer) -> usize {
 
 fn put_data(line: &mut [u8], at: usize, data: &[u8]) -> usize {
     let next = put(line, at, b": ");
-    if data.len() == 0 {
+    if data.is_empty() {
         return put(line, next, b"nothing");
     }
     text::put_hex(line, next, data)
@@ -150,16 +150,13 @@ fn put_records(
     command: usize,
 ) -> usize {
     let mut next = at;
-    let mut i = 0;
-    while i < CacheState::RECORDS {
-        let r = find(state, command, i);
-        if !r.there {
-            break;
-        }
-        next = put_record(line, next, i, r.start, r.len);
-        i += 1;
+    for i in 0..CacheState::RECORDS {
+        let Ok(record) = show::show(state, command, i) else {
+            return put_none(line, next, i);
+        };
+        next = put_record(line, next, i, record);
     }
-    put_none(line, next, i)
+    next
 }
 
 fn put_none(line: &mut [u8], at: usize, records: usize) -> usize {
@@ -177,7 +174,12 @@ fn put_gap(line: &mut [u8], at: usize, i: usize) -> usize {
     put(line, at, b" ")
 }
 
-fn put_record(line: &mut [u8], at: usize, i: usize, start: usize, len: usize) -> usize {
+fn put_record(line: &mut [u8], at: usize, i: usize, record: Record) -> usize {
     let next = put_gap(line, at, i);
-    put_span(line, next, start, len)
+    put_span(
+        line,
+        next,
+        usize::from(record.start),
+        usize::from(record.len),
+    )
 }

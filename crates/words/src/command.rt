@@ -1,26 +1,16 @@
 // A command as a whole: whether it is open, and a command that holds nothing.
-ghost use Rattle.std.specs.Prelude.{◌≡◌, ◌<◌, length, replicate};
-ghost use Rattle.state.specs.Limits.{command_limit, command_words, state_words};
+ghost use Rattle.std.specs.Prelude.{◌≡◌, ◌<◌, length};
+ghost use Rattle.state.specs.Limits.{command_limit, command_words};
 ghost use Rattle.state.specs.State.{empty, is_open};
 ghost use Rattle.state.specs.Words.{command_in, state_of};
 
 use state::CacheState;
 
-pub fn is_open(state: &[u16], command: usize) -> bool
-    requires { (length state.now ≡ state_words) × (command < command_limit) }
+pub fn is_open(state: &[u16; CacheState::WORDS], command: usize) -> bool
+    requires { command < command_limit }
     ensures { result ≡ is_open (state_of state.now) command }
 {
     0 < state[CacheState::COMMAND_WORDS * command]
-}
-
-fn clear(words: &mut [u16])
-    ensures { words.new ≡ replicate (length words.old) 0 }
-{
-    let mut i = 0;
-    while i < words.len() {
-        words[i] = 0;
-        i += 1;
-    }
 }
 
 // The command holds nothing, open or closed.
@@ -28,8 +18,6 @@ pub fn reset(words: &mut [u16], opened: bool)
     requires { length words.old ≡ command_words }
     ensures { (command_in words.new ≡ empty opened) × (length words.new ≡ command_words) }
 {
-    clear(words);
-    if opened {
-        words[0] = 1;
-    }
+    words.fill(0);
+    words[0] = u16::from(opened);
 }

@@ -7,23 +7,14 @@ ghost use Rattle.state.specs.Words.{record_at, command_in};
 
 use state::{CacheState, Record};
 
-// A word, widened.
-pub fn wide(x: u16) -> usize
-    ensures { (result ≡ x) × (result < 65536) }
-{
-    x as usize
-}
-
 // How many entries are records.
 pub fn used(words: &[u16]) -> usize
     requires { length words.now ≡ command_words }
     ensures { (result ≡ length (records_in (command_in words.now))) × (result ≤ record_limit) }
 {
-    let word = wide(words[0]);
-    if word == 0 {
-        return 0;
-    }
-    numbers::lesser(word - 1, CacheState::RECORDS)
+    usize::from(words[0])
+        .saturating_sub(1)
+        .min(CacheState::RECORDS)
 }
 
 // An entry.
@@ -43,13 +34,9 @@ pub fn held_from(words: &[u16], from: usize) -> usize
     requires { length words.now ≡ command_words }
     ensures { result ≡ total (drop from (records_in (command_in words.now))) }
 {
-    let n = used(words);
     let mut sum = 0;
-    let mut i = from;
-    while i < n {
-        let r = entry(words, i);
-        sum = sum + wide(r.len);
-        i = i + 1;
+    for i in from..used(words) {
+        sum += usize::from(entry(words, i).len);
     }
     sum
 }

@@ -8,14 +8,13 @@ use Rattle.scan.proofs.Scanning.{word_end_most}
 use Rattle.expect.proofs.Words.{others_behind}
 use Rattle.expect.proofs.behind.Goals as goal
 
-pub loop-i-preserved : goal.loop-i-preserved
-loop-i-preserved c =
+pub loop-preserved : goal.loop-preserved
+loop-preserved c =
     let text = c.args.text.now in
-    let end : c.until-at.result ≡ word_end text c.loop-i.at = rw (← c.until.ensures) c.until-at.ensures in (
-      rw end (word_end_most text c.loop-i.at c.loop-i.invariant.0),
-      omega arith,
-      rw end (others_behind text c.loop-i.at ∙ ap (drop 1) c.loop-i.invariant.2 ∙ drop-drop 1 c.loop-i.i (words_of text)),
+    let end : c.until-at.result ≡ word_end text c.loop.at = rw (← c.until.ensures) c.until-at.ensures in (
+      rw end (word_end_most text c.loop.at c.loop.invariant.0),
+      rw end (others_behind text c.loop.at ∙ ap (drop 1) c.loop.invariant.1 ∙ drop-drop 1 c.loop.counter (words_of text)),
     )
 
 pub returns : goal.returns
-returns c = let all : c.loop-i.i ≡ c.args.n = omega arith in record { inside = c.loop-i.invariant.0; rest = rw (← all) c.loop-i.invariant.2 }
+returns c = let all : c.loop.counter ≡ c.args.n = omega arith in record { inside = c.loop.invariant.0; rest = rw (← all) c.loop.invariant.1 }

@@ -22,7 +22,7 @@ returns c =
     let end_inside : c.until-end.result ≤ length c.args.line.now = front_most _ c.args.line.now c.until-end.result c.until-end.ensures in
     let text_length : length (take c.until-end.result c.args.line.now) ≡ c.until-end.result
     = length-take-le c.until-end.result c.args.line.now end_inside in
-    rw (c.lesser.ensures, c.until-cut.ensures, ← c.until-end.ensures, text_length)
+    rw (c.min.ensures, c.until-cut.ensures, ← c.until-end.ensures, text_length)
 
 pub slice_bounds-until-end : goal.slice_bounds-until-end
 slice_bounds-until-end c =

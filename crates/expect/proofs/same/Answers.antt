@@ -1,50 +1,60 @@
+-- The library says that the words are the same once their letters are small; the definition says it letter by letter.
 use Prim.Native.Nat.{ℕ}
-use native.Mathlib.Numerals.{add-one}
 use native.Mathlib.Omega.{arith}
-use mathlib.Core.Path.{◌≡◌, sym, ◌∙◌}
-use mathlib.Core.Bool.{Bool}
+use mathlib.Core.Path.{◌≡◌, refl, ap, sym, ◌∙◌}
+use mathlib.Core.List.{List, [], ◌∷◌, map}
+use mathlib.Core.Bool.{Bool, true, false, ◌&&◌}
 use lib.Dec.{eqb}
-use lib.ListN.{length, get_or}
-use borrow.Author.Tests.{eq-eqb, ne_eqb}
+use lib.ListN.{length, get_or, drop}
+use borrow.Author.Tests.{eq-eqb, eqb-true}
+use Rattle.std.specs.Bool.{Decides}
+use Rattle.std.specs.Char.{to_ascii_lowercase}
+use Rattle.std.proofs.lemmas.Bool.{false≢true}
+use Rattle.std.proofs.lemmas.Bool.Decides.{same_from_decides}
 use Rattle.scan.specs.Scan.{front}
 use Rattle.expect.specs.Expect.{lower, same}
-use Rattle.scan.proofs.Fronts.{alike, unlike, whole}
 use Rattle.expect.proofs.same.Goals as goal
 
 abbrev letter : ℕ → ℕ → Bool
 letter x y = eqb (lower x) (lower y)
 
-pub returns-then-one-other : goal.returns-then-one-other
-unfolding same
-returns-then-one-other c = let a = c.args in rw (ne_eqb (length a.one.now) (length a.other.now) c.if-one-other.true)
+lower_is : (b : ℕ) → to_ascii_lowercase b ≡ lower b
+unfolding lower
+lower_is b = grind arith
 
-pub returns-then-lower : goal.returns-then-lower
-unfolding same
-returns-then-lower c =
-    let as_long : same c.args.one.now c.args.other.now ≡ front letter c.args.one.now c.args.other.now
-    = rw (eq-eqb (length c.args.one.now) (length c.args.other.now) c.if-one-other.false) in
-    let a = c.args in
-    let one = a.one.now in
-    let other = a.other.now in
-    let i = c.loop-i.i in
-    let low = c.lower.ensures in
-    let differ = ne_eqb (lower (get_or one i 0)) (lower (get_or other i 0)) (λ e. c.if-lower.true (low ∙ e ∙ sym c.lower-in-loop-i.ensures)) in
-    sym (unlike letter one other i 0 (omega arith) (omega arith) differ) ∙ c.loop-i.invariant ∙ sym as_long
+lowered : (xs : List ℕ) → map to_ascii_lowercase xs ≡ map lower xs
+lowered [] = refl
+lowered (x ∷ xs) = λ i. lower_is x i ∷ lowered xs i
 
-pub loop-i-preserved : goal.loop-i-preserved
-loop-i-preserved c =
-    let a = c.args in
-    let one = a.one.now in
-    let other = a.other.now in
-    let i = c.loop-i.i in
-    let low = c.lower.ensures in
-    let agree = eq-eqb (lower (get_or one i 0)) (lower (get_or other i 0)) (sym low ∙ c.if-lower.false ∙ c.lower-in-loop-i.ensures) in
-    rw add-one (sym (alike letter one other i 0 (omega arith) (omega arith) agree) ∙ c.loop-i.invariant)
+both : (a b : Bool) → a && b ≡ true → (a ≡ true) × (b ≡ true)
+both true b e = (refl, e)
+both false b e = absurd (false≢true e)
+
+alike : (xs ys : List ℕ) → map lower xs ≡ map lower ys → same xs ys ≡ true
+unfolding same front
+alike [] [] e = refl
+alike [] (y ∷ ys) e = absurd (omega (arith, ap length e))
+alike (x ∷ xs) [] e = absurd (omega (arith, ap length e))
+alike (x ∷ xs) (y ∷ ys) e =
+    let rest = both (eqb (length xs) (length ys)) (front letter xs ys) (alike xs ys (ap (drop 1) e)) in
+    let long : length (x ∷ xs) ≡ length (y ∷ ys) = omega (arith, eqb-true (length xs) (length ys) rest.0) in
+    let first : lower x ≡ lower y = ap (λ (l : List ℕ). get_or l 0 0) e in
+    rw (eq-eqb (length (x ∷ xs)) (length (y ∷ ys)) long, eq-eqb (lower x) (lower y) first) rest.1
+
+spelled : (xs ys : List ℕ) → same xs ys ≡ true → map lower xs ≡ map lower ys
+unfolding same front
+spelled [] [] e = refl
+spelled [] (y ∷ ys) e = absurd (omega (arith, eqb-true 0 (length (y ∷ ys)) (both (eqb 0 (length (y ∷ ys))) true e).0))
+spelled (x ∷ xs) [] e = absurd (false≢true (both (eqb (length (x ∷ xs)) 0) false e).1)
+spelled (x ∷ xs) (y ∷ ys) e =
+    let parts = both (eqb (length (x ∷ xs)) (length (y ∷ ys))) (letter x y && front letter xs ys) e in
+    let rest = both (letter x y) (front letter xs ys) parts.1 in
+    let long : length xs ≡ length ys = omega (arith, eqb-true (length (x ∷ xs)) (length (y ∷ ys)) parts.0) in
+    let others = spelled xs ys (rw (eq-eqb (length xs) (length ys) long) rest.1) in
+    λ i. eqb-true (lower x) (lower y) rest.0 i ∷ others i
+
+decided : (xs ys : List ℕ) → Decides (same xs ys) (map to_ascii_lowercase xs ≡ map to_ascii_lowercase ys)
+decided xs ys = (λ e. lowered xs ∙ spelled xs ys e ∙ sym (lowered ys), λ e. alike xs ys (sym (lowered xs) ∙ e ∙ lowered ys))
 
 pub returns : goal.returns
-unfolding same
-returns c =
-    let as_long : same c.args.one.now c.args.other.now ≡ front letter c.args.one.now c.args.other.now
-    = rw (eq-eqb (length c.args.one.now) (length c.args.other.now) c.if-one-other.false) in
-    let a = c.args in
-    sym (whole letter a.one.now a.other.now c.loop-i.i (omega arith)) ∙ c.loop-i.invariant ∙ sym as_long
+returns c = same_from_decides _ _ c.eq_ignore_ascii_case.ensures.test (decided c.args.one.now c.args.other.now)

@@ -1,95 +1,41 @@
 -- Refused, everything is as it was; held, the span is delivered from the store.
-use Prim.Native.Nat.{ℕ, ◌+◌, ◌≤◌}
-use native.Mathlib.Omega.{arith}
-use mathlib.Core.Path.{subst}
-use mathlib.Core.List.{List}
-use lib.ListN.{length}
-use Rattle.state.specs.Limits.{held_limit}
-use Rattle.state.specs.Words.{state_of}
-use Rattle.admission.proofs.Admitted.{Admits, admits}
-use Rattle.holding.specs.declared.Holding.{Holding}
-use Rattle.holding.specs.declared.Holding.TheVariants.{Span}
-use Rattle.holding.specs.Holding.{Holds}
-use Rattle.fetch.proofs.Fetching.{may_hold, bytes_refused, records_refused, placed, at_most, span_fetched}
+use Rattle.std.proofs.Common.{arith, length}
+use Rattle.std.proofs.lemmas.Result.{err_from_is_err_and}
+use Rattle.admission.proofs.Admitted.{admits}
+use Rattle.fetch.proofs.Fetching.{may_hold, full_refused, placed, at_most, span_fetched}
 use Rattle.fetch.proofs.fetch_span.Goals as goal
 
-pub hold_span-holding-requires : goal.hold_span-holding-requires
-hold_span-holding-requires c =
+pub hold_span-requires : goal.hold_span-requires
+hold_span-requires c =
     let a = c.args in
-    may_hold a.state.now a.store.now a.window.now a.destination.now _ _ _ c.requires.1 c.requires.0 c.requires.2
+    may_hold a.state.now a.store.now a.window.now a.destination.now _ _ _ c.requires.0 c.told-state c.requires.1
 
-pub returns-in-Bytes : goal.returns-in-Bytes
-returns-in-Bytes c =
-    let words : List ℕ = c.args.state.now in
-    let store : List ℕ = c.args.store.now in
-    let window : List ℕ = c.args.window.now in
-    let dest : List ℕ = c.args.destination.now in
-    let words' : List ℕ = c.hold_span-holding.new.state in
-    let store' : List ℕ = c.hold_span-holding.new.store in
-    let Came : Holding → Type 0 = λ r. Holds words store c.args.command c.args.address c.args.size 0 window r words' store' in
-    bytes_refused (words) (store) (window) (dest) _ _ _ c.requires.1 c.requires.0 c.requires.2 (words') (store')
-    (subst (Came) c.in-Bytes.is c.hold_span-holding.ensures)
-
-pub returns-in-Records : goal.returns-in-Records
-returns-in-Records c =
-    let words : List ℕ = c.args.state.now in
-    let store : List ℕ = c.args.store.now in
-    let window : List ℕ = c.args.window.now in
-    let dest : List ℕ = c.args.destination.now in
-    let words' : List ℕ = c.hold_span-holding.new.state in
-    let store' : List ℕ = c.hold_span-holding.new.store in
-    let Came : Holding → Type 0 = λ r. Holds words store c.args.command c.args.address c.args.size 0 window r words' store' in
-    records_refused (words) (store) (window) (dest) _ _ _ c.requires.1 c.requires.0 c.requires.2 (words') (store')
-    (subst (Came) c.in-Records.is c.hold_span-holding.ensures)
+pub returns-in_err-held : goal.returns-in_err-held
+returns-in_err-held c =
+    let a = c.args in
+    let p = err_from_is_err_and c.from_residual.result c.from_residual.ensures.1 in
+    rw (p.1, p.2)
+    (full_refused a.state.now a.store.now a.window.now a.destination.now _ _ _ c.requires.0 c.told-state c.requires.1 _ _
+    c.in_err-held.field-0.0 c.in_err-held.ensures)
 
 pub deliver-requires : goal.deliver-requires
 deliver-requires c =
-    let A : Admits (state_of c.args.state.now) (length c.args.store.now) (length c.args.window.now) (length c.args.destination.now)
-    c.args.command c.args.address c.args.size = admits _ (length c.args.store.now) (length c.args.window.now) (length c.args.destination.now) _ _ c.args.size c.requires.1 in
-    let words : List ℕ = c.args.state.now in
-    let store : List ℕ = c.args.store.now in
-    let window : List ℕ = c.args.window.now in
-    let dest : List ℕ = c.args.destination.now in
-    let words' : List ℕ = c.hold_span-holding.new.state in
-    let store' : List ℕ = c.hold_span-holding.new.store in
-    let Came : Holding → Type 0 = λ r. Holds words store c.args.command c.args.address c.args.size 0 window r words' store' in
-    let new : ℕ = c.in-Span.fresh in
-    let place : ℕ = c.in-Span.place in
-    let looked : ℕ = c.in-Span.looked in
-    let held : Came (Span new place looked) = subst (Came) c.in-Span.is c.hold_span-holding.ensures in
-    let fits : place + c.args.size ≤ held_limit = placed (words) (store) (window) (dest) _ _ _ c.requires.1 c.requires.0 c.requires.2 (words') (store') new place looked held in
-    let a = A in
-    (a.command, omega (arith, a.size), fits, a.takes)
+    let a = c.args in
+    let A = admits _ (length a.store.now) (length a.window.now) (length a.destination.now) _ _ a.size c.requires.0 in (
+      A.command,
+      omega (arith, A.size),
+      placed a.state.now a.store.now a.window.now a.destination.now _ _ _ c.requires.0 c.told-state c.requires.1
+          _ _ _ _ _ c.in_ok-held.ensures,
+      A.takes,
+    )
 
-pub returns-in-Span : goal.returns-in-Span
-returns-in-Span c =
-    let words : List ℕ = c.args.state.now in
-    let store : List ℕ = c.args.store.now in
-    let window : List ℕ = c.args.window.now in
-    let dest : List ℕ = c.args.destination.now in
-    let words' : List ℕ = c.hold_span-holding.new.state in
-    let store' : List ℕ = c.hold_span-holding.new.store in
-    let Came : Holding → Type 0 = λ r. Holds words store c.args.command c.args.address c.args.size 0 window r words' store' in
-    let new : ℕ = c.in-Span.fresh in
-    let place : ℕ = c.in-Span.place in
-    let looked : ℕ = c.in-Span.looked in
-    let held : Came (Span new place looked) = subst (Came) c.in-Span.is c.hold_span-holding.ensures in
-    span_fetched (words) (store) (window) (dest) _ _ _ c.requires.1 c.requires.0 c.requires.2 (words') (store')
-    (new) (place) (looked) (held) _
-    c.deliver.ensures
+pub overflow_sub-result : goal.overflow_sub-result
+overflow_sub-result c =
+    let a = c.args in
+    at_most a.state.now a.store.now a.window.now a.destination.now _ _ _ c.requires.0 c.told-state c.requires.1 _ _ _ _ _ c.in_ok-held.ensures
 
-pub overflow_sub-replayed : goal.overflow_sub-replayed
-overflow_sub-replayed c =
-    let words : List ℕ = c.args.state.now in
-    let store : List ℕ = c.args.store.now in
-    let window : List ℕ = c.args.window.now in
-    let dest : List ℕ = c.args.destination.now in
-    let words' : List ℕ = c.hold_span-holding.new.state in
-    let store' : List ℕ = c.hold_span-holding.new.store in
-    let Came : Holding → Type 0 = λ r. Holds words store c.args.command c.args.address c.args.size 0 window r words' store' in
-    let new : ℕ = c.in-Span.fresh in
-    let place : ℕ = c.in-Span.place in
-    let looked : ℕ = c.in-Span.looked in
-    let held : Came (Span new place looked) = subst (Came) c.in-Span.is c.hold_span-holding.ensures in
-    let few : new ≤ c.args.size = at_most (words) (store) (window) (dest) _ _ _ c.requires.1 c.requires.0 c.requires.2 (words') (store') new place looked held in
-    few
+pub returns : goal.returns
+returns c =
+    let a = c.args in
+    span_fetched a.state.now a.store.now a.window.now a.destination.now _ _ _ c.requires.0 c.told-state c.requires.1 _ _ _ _ _
+    c.in_ok-held.ensures _ c.deliver.ensures

@@ -1,31 +1,34 @@
 -- Refused, the window is as it was. Accepted, the bytes fit, so all of them are copied.
-use Prim.Native.Nat.{◌-◌}
+use Prim.Native.Nat.{ℕ, ◌-◌}
 use native.Mathlib.Omega.{arith}
-use mathlib.Core.Path.{◌≡◌, ap, ◌∙◌}
-use mathlib.Core.Bool.{true, false}
+use mathlib.Core.Path.{◌≡◌, ap, sym, ◌∙◌}
+use mathlib.Core.List.{[], ◌∷◌}
 use lib.ListN.{length}
 use lib.Seq.{take_all}
+use Rattle.std.proofs.lemmas.Result.{err_from_is_err_and}
 use Rattle.octets.specs.Lists.{overwrite}
-use Rattle.state.specs.Verdict.{Reply, accepted}
-use Rattle.state.proofs.Verdict.{says_of}
-use Rattle.state.specs.Answers.{host_write_reply}
-use Rattle.cache.specs.HostWrite.{host_says, host_window}
+use Rattle.state.specs.Refusals.{number}
+use Rattle.state.specs.Verdict.{refused, replied, accepted, verdict}
+use Rattle.state.proofs.Verdict.{verdict_bars, verdict_passes}
+use Rattle.cache.specs.HostWrite.{host_checks, host_says, host_window}
 use Rattle.cache.proofs.Accepted.{host_inside}
 use Rattle.hostwrite.proofs.host_write.Goals as goal
 
-pub returns-in_default : goal.returns-in_default
-unfolding accepted host_window
-returns-in_default c =
-    let said : Reply = host_says (length c.args.window.now) c.args.address (length c.args.bytes.now) in
-    let says = c.judge-answer.ensures in
-    let no : accepted (said) ≡ false = ap accepted (says_of host_write_reply says c.in_default.is) in
-    record { reply = says; window = rw no }
+pub returns-in_err-judge : goal.returns-in_err-judge
+unfolding accepted host_says host_window
+returns-in_err-judge c =
+    let a = c.args in
+    let p = err_from_is_err_and c.from_residual.result c.from_residual.ensures.1 in
+    let says : host_says (length a.window.now) a.address (length a.bytes.now) ≡ refused (number c.in_err-judge.field-0.0) =
+    verdict_bars (host_checks (length a.window.now) a.address (length a.bytes.now)) [] [] _ _ (sym c.in_err-judge.ensures) in
+    rw (p.1, p.2) (record { reply = sym says; window = rw says })
 
 pub returns : goal.returns
-unfolding host_window accepted
+unfolding accepted host_says host_window verdict
 returns c =
-    let said : Reply = host_says (length c.args.window.now) c.args.address (length c.args.bytes.now) in
-    let taken : accepted (said) ≡ true = ap accepted (says_of host_write_reply c.judge-answer.ensures c.in-Done.is) in
-    let window = c.args.window.now in
-    let bytes = c.args.bytes.now in
-    let all_of_it = take_all (length window - c.args.address) bytes (omega (arith, host_inside (length c.args.window.now) c.args.address (length c.args.bytes.now) (taken))) in record { reply = c.judge-answer.ensures; window = c.copy_at.ensures ∙ ap (overwrite window c.args.address) all_of_it ∙ rw (taken) }
+    let a = c.args in
+    let n : ℕ = length a.bytes.now in
+    let says : host_says (length a.window.now) a.address n ≡ replied (n ∷ []) =
+    verdict_passes [] (replied []) _ (host_checks (length a.window.now) a.address n) (ap accepted (sym c.in_ok-judge.ensures)) in
+    let all_of_it = take_all (length a.window.now - a.address) a.bytes.now (omega (arith, host_inside (length a.window.now) a.address n (ap accepted says))) in
+    record { reply = sym says; window = c.copy_at.ensures ∙ ap (overwrite a.window.now a.address) all_of_it ∙ rw says }

@@ -29,7 +29,7 @@ returns-then-not-records_hold c =
 pub returns : goal.returns
 returns c =
     let ws = c.args.words.now in
-    let count : c.wide-word.result - 1 ≡ get_or ws 0 0 - 1 = omega arith in
+    let count : c.from-word.result - 1 ≡ get_or ws 0 0 - 1 = omega arith in
     let kept = sym c.records_hold.ensures ∙ c.if-not-records_hold.false in
     c.unused_zero-2.ensures ∙ ap (λ (k : ℕ). all is_zero (drop k (entries_in ws))) count
     ∙ sym (unused_decide (command_in ws) (lt-ltb 0 (get_or ws 0 0) (omega arith)) (omega arith) kept)

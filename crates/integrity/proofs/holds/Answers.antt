@@ -1,4 +1,4 @@
-use Rattle.std.proofs.Common.{◌≡◌, ◌+◌, ◌-◌, ◌*◌, true, false, get_or, sym, refl, ap, ◌∙◌, arith, length-drop, drop_of_length-le, length-take}
+use Rattle.std.proofs.Common.{◌≡◌, ◌+◌, ◌-◌, ◌*◌, true, false, get_or, sym, refl, ap, ◌∙◌, arith, drop_of_length-le}
 use Rattle.octets.specs.Lists.{all}
 use Rattle.state.specs.State.{command_holds, holds, closed}
 use Rattle.state.proofs.Walk.{command_fails, command_next}
@@ -8,10 +8,7 @@ use Rattle.integrity.proofs.holds.Goals as goal
 
 pub loop-c-init : goal.loop-c-init
 unfolding holds state_of
-loop-c-init c = (omega arith, refl)
-
-pub command_holds-requires : goal.command_holds-requires
-command_holds-requires c = simp (length-take, length-drop) (omega arith)
+loop-c-init c = refl
 
 pub returns-then-not-command_holds : goal.returns-then-not-command_holds
 returns-then-not-command_holds c =
@@ -20,7 +17,7 @@ returns-then-not-command_holds c =
     let size : 129 * i + 129 - 129 * i ≡ 129 = omega arith in
     let own : command_holds (get_or (commands_in words) i closed) ≡ false
     = ap command_holds (command_at words i closed (omega arith)) ∙ rw size at (sym c.command_holds.ensures) ∙ c.if-not-command_holds.true in
-    command_fails command_holds (commands_in words) i closed (omega (arith, commands_size words)) c.loop-c.invariant.1 own
+    command_fails command_holds (commands_in words) i closed (omega (arith, commands_size words)) c.loop-c.invariant own
 
 pub loop-c-preserved : goal.loop-c-preserved
 loop-c-preserved c =
@@ -29,10 +26,10 @@ loop-c-preserved c =
     let size : 129 * i + 129 - 129 * i ≡ 129 = omega arith in
     let own : command_holds (get_or (commands_in words) i closed) ≡ true
     = ap command_holds (command_at words i closed (omega arith)) ∙ rw size at (sym c.command_holds.ensures) ∙ c.if-not-command_holds.false in
-    (omega arith, command_next command_holds (commands_in words) i closed (omega (arith, commands_size words)) c.loop-c.invariant.1 own)
+    command_next command_holds (commands_in words) i closed (omega (arith, commands_size words)) c.loop-c.invariant own
 
 pub returns : goal.returns
 returns c =
     let words = c.args.state.now in
     let none = drop_of_length-le (commands_in words) {i = c.loop-c.c} (omega (arith, commands_size words)) in
-    sym (sym c.loop-c.invariant.1 ∙ ap (all command_holds) none ∙ unfold all in refl)
+    sym (sym c.loop-c.invariant ∙ ap (all command_holds) none ∙ unfold all in refl)

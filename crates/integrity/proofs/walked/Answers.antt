@@ -6,8 +6,8 @@ use Rattle.integrity.proofs.walked.Goals as goal
 
 pub returns : goal.returns
 returns c =
-    let start = c.wide32-start.ensures.0 in
-    let len = c.wide32-len.ensures.0 in
+    let start = c.from-start.ensures in
+    let len = c.from-len.ensures in
     let w = c.args.w in
     record {
       faults =

@@ -20,9 +20,9 @@ pub returns : goal.returns
 returns c =
     let a = c.args in
     let size : a.address + length a.bytes.now - a.address ≡ length a.bytes.now = omega arith in
-    let among : a.address + length a.bytes.now ≤ length a.values.now = omega (arith, c.requires.1, c.requires.2) in
+    let among : a.address + length a.bytes.now ≤ length a.values.now = omega arith in
     record {
       words = c.set_span.ensures ∙ ap (λ (n : ℕ). words_of (λ x. is_set a.words.now x || in_span a.address n x)) size;
       values = c.copy_at.ensures ∙ copied_whole a.values.now a.bytes.now a.address among;
-      window = c.copy_at-2.ensures ∙ copied_whole a.window.now a.bytes.now a.address c.requires.3;
+      window = c.copy_at-2.ensures ∙ copied_whole a.window.now a.bytes.now a.address c.requires.1;
     }

@@ -1,13 +1,13 @@
-use Prim.Native.Nat.{ℕ, ◌+◌, ◌-◌, ◌≤◌, ◌<◌, min}
+use Prim.Native.Nat.{ℕ, ◌+◌, ◌≤◌, ◌<◌, min}
 use native.Mathlib.Numerals.{add-one}
 use native.Mathlib.Omega.{arith}
 use mathlib.Core.Path.{◌≡◌, refl, ap, sym, ◌∙◌}
 use mathlib.Core.List.{List, [], ◌∷◌, ◌++◌, append-nil, append_assoc}
-use lib.ListN.{length, take, drop, get_or, length-take, length-drop}
-use lib.Seq.{take-suc, take_all, get_or-take, get_or-drop}
+use lib.ListN.{length, take, get_or, length-take}
+use lib.Seq.{take-suc, take_all}
 use borrow.Author.Tests.{lt-ltb, le-ltb}
-use Rattle.octets.specs.Text.{ascii, Puts}
-use Rattle.text.proofs.Putting.{puts_is, puts_none, puts_both, puts_length}
+use Rattle.octets.specs.Text.{ascii}
+use Rattle.text.proofs.Putting.{puts_is, puts_none, puts_both}
 use Rattle.quoting.specs.Quoting.{quoted_byte, quoted_all, quoted}
 use Rattle.quoting.proofs.quote.Goals as goal
 
@@ -28,64 +28,39 @@ quoted_more text i inside =
     ∙ ap (λ (l : List ℕ). quoted_all (take i text) ++ l) (append-nil (quoted_byte (get_or text i 0))))
 
 -- a text that is cut, and one that is shown whole
-cut : (text : List ℕ) → 60 < length text → quoted_all (take 60 text) ++ ascii "..." ≡ quoted text
-unfolding quoted
-cut text more = rw (lt-ltb 60 (length text) more)
+module _ (text : List ℕ) (n : ℕ) (size : n ≡ min (length text) 60) where
+  cut : length (take n text) < length text → quoted_all (take n text) ++ ascii "..." ≡ quoted text
+  unfolding quoted
+  cut less =
+      let more : 60 < length text = omega (arith, length-take n text) in
+      let full : n ≡ 60 = omega arith in
+      rw (full, lt-ltb 60 (length text) more)
 
-all : (text : List ℕ) → length text ≤ 60 → quoted_all (take (length text) text) ≡ quoted text
-unfolding quoted
-all text few =
-    rw (le-ltb 60 (length text) few)
-    (ap quoted_all (take_all (length text) text (omega arith) ∙ sym (take_all 60 text few)) ∙ sym (append-nil (quoted_all (take 60 text))))
+  whole : length text ≤ length (take n text) → quoted_all (take n text) ≡ quoted text
+  unfolding quoted
+  whole all =
+      let few : length text ≤ 60 = omega (arith, length-take n text) in
+      rw (le-ltb 60 (length text) few, append-nil, take_all n text (omega (arith, length-take n text)), take_all 60 text few)
 
-pub loop-i-init : goal.loop-i-init
+pub loop-byte-init : goal.loop-byte-init
 unfolding quoted_all
-loop-i-init c =
-    let text : List ℕ = c.args.text.now in
-    let size : c.lesser-n.result ≡ min (length text) 60 = c.lesser-n.ensures in
-    let first = c.put-next in (
-      omega (arith, size),
-      omega arith,
-      refl,
-      puts_none first.new.out first.result first.result (omega (arith, first.ensures.next, puts_length first.ensures)),
-    )
+loop-byte-init c = puts_none c.args.out.now c.args.at c.min-next.result c.min-next.ensures
 
-pub quote_byte-next-requires : goal.quote_byte-next-requires
-quote_byte-next-requires c =
-    let text : List ℕ = c.args.text.now in
-    let size : c.lesser-n.result ≡ min (length text) 60 = c.lesser-n.ensures in
-    let i = c.loop-i.i in
-    omega (arith, size, length-take (i + 1 - i) (drop i text), length-drop i text)
+pub loop-byte-preserved : goal.loop-byte-preserved
+loop-byte-preserved c =
+    puts_is (puts_both c.loop-byte.invariant c.quote_byte-next.ensures)
+    (quoted_more (take c.min.result c.args.text.now) c.loop-byte.byte-index c.loop-byte-test.true)
 
-pub loop-i-preserved : goal.loop-i-preserved
-loop-i-preserved c =
-    let text : List ℕ = c.args.text.now in
-    let size : c.lesser-n.result ≡ min (length text) 60 = c.lesser-n.ensures in
-    let i = c.loop-i.i in
-    let byte : get_or (take (i + 1 - i) (drop i text)) 0 0 ≡ get_or text i 0
-    = get_or-take (i + 1 - i) (drop i text) 0 0 (omega arith) ∙ get_or-drop i text 0 0 ∙ ap (λ (k : ℕ). get_or text k 0) (omega arith) in (
-      omega (arith, size),
-      omega arith,
-      omega arith,
-      puts_is (puts_both c.loop-i.invariant.3 c.quote_byte-next.ensures)
-          (ap (λ (b : ℕ). quoted_all (take i text) ++ quoted_byte b) byte ∙ quoted_more text i (omega (arith, size))),
-    )
-
-pub returns-then-n-text : goal.returns-then-n-text
-returns-then-n-text c =
-    let text : List ℕ = c.args.text.now in
-    let size : c.lesser-n.result ≡ min (length text) 60 = c.lesser-n.ensures in
-    let so_far : Puts c.args.out.now c.args.at (quoted_all (take c.loop-i.i text)) c.loop-i.next c.loop-i.out
-    = puts_both c.put-next.ensures c.loop-i.invariant.3 in
-    let full : c.loop-i.i ≡ 60 = omega (arith, size, c.if-n-text.true) in
-    puts_is (puts_both so_far c.put.ensures)
-    (ap (λ (n : ℕ). quoted_all (take n text) ++ ascii "...") full ∙ cut text (omega (arith, size)))
+pub returns-then-shown-text : goal.returns-then-shown-text
+returns-then-shown-text c =
+    let text = c.args.text.now in
+    let shown = take c.min.result text in
+    let done = take_all c.loop-byte.byte-index shown c.loop-byte-test.false in
+    puts_is (puts_both c.loop-byte.invariant c.put.ensures)
+    (ap (λ (l : List ℕ). quoted_all l ++ ascii "...") done ∙ cut text c.min.result c.min.ensures c.if-shown-text.true)
 
 pub returns : goal.returns
 returns c =
-    let text : List ℕ = c.args.text.now in
-    let size : c.lesser-n.result ≡ min (length text) 60 = c.lesser-n.ensures in
-    let so_far : Puts c.args.out.now c.args.at (quoted_all (take c.loop-i.i text)) c.loop-i.next c.loop-i.out
-    = puts_both c.put-next.ensures c.loop-i.invariant.3 in
-    let full : c.loop-i.i ≡ length text = omega (arith, size, c.if-n-text.false) in
-    puts_is so_far (ap (λ (n : ℕ). quoted_all (take n text)) full ∙ all text (omega (arith, size)))
+    let text = c.args.text.now in
+    let done = take_all c.loop-byte.byte-index (take c.min.result text) c.loop-byte-test.false in
+    puts_is c.loop-byte.invariant (ap quoted_all done ∙ whole text c.min.result c.min.ensures c.if-shown-text.false)

@@ -30,9 +30,9 @@ overflow_add-m-3 c =
     let p : CommandState = command_in c.args.words.now in
     let m : Meeting = c.search-searched.result.met in
     let met : m ≡ meeting (records_in p) a (a + n) = c.search-searched.ensures.met in
-    let fresh_is : c.minus-fresh.result ≡ m.high - m.low - m.held = c.minus-fresh.ensures ∙ ap (λ (k : ℕ). k - m.held) c.minus-wide.ensures in
+    let fresh_is : c.saturating_sub-fresh.result ≡ m.high - m.low - m.held = c.saturating_sub-fresh.ensures ∙ ap (λ (k : ℕ). k - m.held) c.saturating_sub.ensures in
     let small : m.below + m.held + c.held_from-behind.result ≤ held_limit = omega (arith, held_small p a n m met c.requires.1 c.requires.2, c.held_from-behind.ensures) in
-    let short : c.minus-fresh.result ≤ n = omega (arith, fresh_small p a n m met c.requires.1 c.requires.2, fresh_is) in
+    let short : c.saturating_sub-fresh.result ≤ n = omega (arith, fresh_small p a n m met c.requires.1 c.requires.2, fresh_is) in
     omega (arith, small, short)
 
 pub returns-then-m-behind-gt-HELD : goal.returns-then-m-behind-gt-HELD
@@ -43,22 +43,22 @@ returns-then-m-behind-gt-HELD c =
     let j : Join = join p a (a + n) in
     let m : Meeting = c.search-searched.result.met in
     let met : m ≡ meeting (records_in p) a (a + n) = c.search-searched.ensures.met in
-    let fresh_is : c.minus-fresh.result ≡ m.high - m.low - m.held = c.minus-fresh.ensures ∙ ap (λ (k : ℕ). k - m.held) c.minus-wide.ensures in
-    let bytes : m.below + m.held + c.held_from-behind.result + c.minus-fresh.result ≡ bytes_of p j = omega (arith, bytes_are p a n m met, fresh_is, c.held_from-behind.ensures) in
+    let fresh_is : c.saturating_sub-fresh.result ≡ m.high - m.low - m.held = c.saturating_sub-fresh.ensures ∙ ap (λ (k : ℕ). k - m.held) c.saturating_sub.ensures in
+    let bytes : m.below + m.held + c.held_from-behind.result + c.saturating_sub-fresh.result ≡ bytes_of p j = omega (arith, bytes_are p a n m met, fresh_is, c.held_from-behind.ensures) in
     let over : held_limit < bytes_of (p) (j) = omega (arith, bytes) in over
 
-pub returns-then-m-minus-gt-RECORDS : goal.returns-then-m-minus-gt-RECORDS
-returns-then-m-minus-gt-RECORDS c =
+pub returns-then-m-saturating_sub-gt-RECORDS : goal.returns-then-m-saturating_sub-gt-RECORDS
+returns-then-m-saturating_sub-gt-RECORDS c =
     let a : ℕ = c.args.address in
     let n : ℕ = c.args.size in
     let p : CommandState = command_in c.args.words.now in
     let j : Join = join p a (a + n) in
     let m : Meeting = c.search-searched.result.met in
     let met : m ≡ meeting (records_in p) a (a + n) = c.search-searched.ensures.met in
-    let fresh_is : c.minus-fresh.result ≡ m.high - m.low - m.held = c.minus-fresh.ensures ∙ ap (λ (k : ℕ). k - m.held) c.minus-wide.ensures in
-    let bytes : m.below + m.held + c.held_from-behind.result + c.minus-fresh.result ≡ bytes_of p j = omega (arith, bytes_are p a n m met, fresh_is, c.held_from-behind.ensures) in
+    let fresh_is : c.saturating_sub-fresh.result ≡ m.high - m.low - m.held = c.saturating_sub-fresh.ensures ∙ ap (λ (k : ℕ). k - m.held) c.saturating_sub.ensures in
+    let bytes : m.below + m.held + c.held_from-behind.result + c.saturating_sub-fresh.result ≡ bytes_of p j = omega (arith, bytes_are p a n m met, fresh_is, c.held_from-behind.ensures) in
     let room : bytes_of (p) (j) ≤ held_limit = omega (arith, bytes) in
-    let number : (m).first + 1 + c.minus.result ≡ (j).command.count = ap (λ (k : ℕ). (m).first + 1 + k) (c.minus.ensures ∙ ap (λ (k : ℕ). k - (m).last) c.used-n.ensures.0)
+    let number : (m).first + 1 + c.saturating_sub-2.result ≡ (j).command.count = ap (λ (k : ℕ). (m).first + 1 + k) (c.saturating_sub-2.ensures ∙ ap (λ (k : ℕ). k - (m).last) c.used.ensures.0)
     ∙ count_is (p) (a) (n) (m) (met) in
     record { bytes = room; many = omega (arith, number) }
 
@@ -70,10 +70,10 @@ returns c =
     let j : Join = join p a (a + n) in
     let m : Meeting = c.search-searched.result.met in
     let met : m ≡ meeting (records_in p) a (a + n) = c.search-searched.ensures.met in
-    let fresh_is : c.minus-fresh.result ≡ m.high - m.low - m.held = c.minus-fresh.ensures ∙ ap (λ (k : ℕ). k - m.held) c.minus-wide.ensures in
-    let bytes : m.below + m.held + c.held_from-behind.result + c.minus-fresh.result ≡ bytes_of p j = omega (arith, bytes_are p a n m met, fresh_is, c.held_from-behind.ensures) in
+    let fresh_is : c.saturating_sub-fresh.result ≡ m.high - m.low - m.held = c.saturating_sub-fresh.ensures ∙ ap (λ (k : ℕ). k - m.held) c.saturating_sub.ensures in
+    let bytes : m.below + m.held + c.held_from-behind.result + c.saturating_sub-fresh.result ≡ bytes_of p j = omega (arith, bytes_are p a n m met, fresh_is, c.held_from-behind.ensures) in
     let room : bytes_of (p) (j) ≤ held_limit = omega (arith, bytes) in
-    let number : (m).first + 1 + c.minus.result ≡ (j).command.count = ap (λ (k : ℕ). (m).first + 1 + k) (c.minus.ensures ∙ ap (λ (k : ℕ). k - (m).last) c.used-n.ensures.0)
+    let number : (m).first + 1 + c.saturating_sub-2.result ≡ (j).command.count = ap (λ (k : ℕ). (m).first + 1 + k) (c.saturating_sub-2.ensures ∙ ap (λ (k : ℕ). k - (m).last) c.used.ensures.0)
     ∙ count_is (p) (a) (n) (m) (met) in
     record {
       meets = meets (p) (a) (n) (m) (met);

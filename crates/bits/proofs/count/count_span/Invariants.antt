@@ -1,5 +1,5 @@
 -- The addresses of the span that are set and lie below word i are counted.
-use Prim.Native.Nat.{◌-◌, ◌*◌, ◌≤◌}
+use Prim.Native.Nat.{◌*◌}
 use mathlib.Core.Path.{◌≡◌}
 use Rattle.octets.specs.Lists.{count}
 use Rattle.state.specs.Records.{span}
@@ -7,7 +7,4 @@ use Rattle.bits.proofs.Spans.{inner}
 use Rattle.bits.proofs.count.count_span.Given as goal
 
 abbrev pub invariant-loop-i : goal.invariant-loop-i
-invariant-loop-i l = (l.i ≤ 64) × (l.n ≡ count (inner l.words l.low l.high) (span 0 (64 * l.i)))
-
-abbrev pub decreases-loop-i : goal.decreases-loop-i
-decreases-loop-i l = l.end - l.i
+invariant-loop-i l = l.n ≡ count (inner l.words l.low l.high) (span 0 (64 * l.i))

@@ -1,19 +1,11 @@
-use Prim.Native.Nat.{◌-◌}
-use native.Mathlib.Omega.{arith}
-use mathlib.Core.Path.{◌≡◌, ◌∙◌}
-use mathlib.Core.List.{[]}
-use mathlib.Core.Bool.{and-true}
-use lib.ListN.{drop, drop_of_length-le}
-use Rattle.octets.specs.Lists.{all}
-use Rattle.octets.proofs.Zero.{one_more}
+use Prim.Native.Nat.{ℕ}
+use Rattle.std.proofs.Common.{rules, fold, bit_or}
+use mathlib.Core.Path.{◌≡◌, ap, ◌∙◌}
+use lib.Dec.{eqb}
+use Rattle.bits.proofs.Joined.{joined_zero}
 use Rattle.bits.proofs.fill.all_zero.Goals as goal
 
-pub loop-i-preserved : goal.loop-i-preserved
-loop-i-preserved c = one_more c.args.words.now c.loop-i.i c.loop-i.or (omega arith) ∙ c.loop-i.invariant
-
 pub returns : goal.returns
-unfolding all
 returns c =
-    let words = c.args.words.now in
-    let none : drop c.loop-i.i words ≡ [] = drop_of_length-le words {i = c.loop-i.i} (omega arith) in
-    rw (none, and-true) at c.loop-i.invariant
+    let joined : c.fold.result ≡ fold bit_or 0 c.args.words.now = search rules in
+    ap (λ (or : ℕ). eqb or 0) joined ∙ joined_zero 0 c.args.words.now

@@ -1,4 +1,4 @@
-use Prim.Native.Nat.{◌+◌, ◌-◌, ◌≤◌, ◌<◌}
+use Prim.Native.Nat.{◌+◌, ◌≤◌, ◌<◌}
 use native.Mathlib.Omega.{arith}
 use mathlib.Core.Path.{◌≡◌, refl, ap, sym, ◌∙◌}
 use lib.ListN.{get_or, drop}
@@ -15,10 +15,10 @@ use Rattle.join.proofs.search.search.Goals as goal
 
 pub loop-i-init : goal.loop-i-init
 unfolding meeting
-loop-i-init c = (refl, record { first = omega arith; last = omega arith; below = omega arith; held = omega arith }, refl, omega arith, omega arith)
+loop-i-init c = (refl, record { first = omega arith; last = omega arith; below = omega arith; held = omega arith }, refl, omega arith)
 
-pub returns-then-end-wide : goal.returns-then-end-wide
-returns-then-end-wide c =
+pub returns-then-end-from : goal.returns-then-end-from
+returns-then-end-from c =
     let ws = c.args.words.now in
     let p = command_in ws in
     let i = c.loop-i.i in
@@ -34,7 +34,7 @@ returns-then-end-wide c =
       small = record { first = c.loop-i.invariant.1.first; last = omega arith; below = omega arith; held = omega arith };
       looked = omega (
         arith,
-        at_next p i (omega arith) (λ rs. i + looked_up_to c.args.end rs) c.loop-i.invariant.4,
+        at_next p i (omega arith) (λ rs. i + looked_up_to c.args.end rs) c.loop-i.invariant.3,
         looked_stops c.args.end r rest above,
       );
     }
@@ -55,8 +55,7 @@ loop-i-preserved c =
           ∙ at_next p i (omega arith) (λ rs. searched a c.args.end rs m) c.loop-i.invariant.0,
       record { first = c.pass-m.ensures.order c.loop-i.invariant.1.first; last = omega arith; below = omega arith; held = omega arith },
       omega arith,
-      omega arith,
-      omega (arith, at_next p i (omega arith) (λ rs. i + looked_up_to c.args.end rs) c.loop-i.invariant.4, looked_on c.args.end r rest up_to),
+      omega (arith, at_next p i (omega arith) (λ rs. i + looked_up_to c.args.end rs) c.loop-i.invariant.3, looked_on c.args.end r rest up_to),
     )
 
 pub returns : goal.returns
@@ -68,5 +67,5 @@ returns c =
     record {
       met = sym (sym c.loop-i.invariant.0 ∙ ap (λ rs. searched c.args.address c.args.end rs m) none ∙ unfold searched in refl);
       small = record { first = c.loop-i.invariant.1.first; last = omega arith; below = omega arith; held = omega arith };
-      looked = omega (arith, c.loop-i.invariant.4, none_left);
+      looked = omega (arith, c.loop-i.invariant.3, none_left);
     }

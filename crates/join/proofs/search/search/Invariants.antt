@@ -1,5 +1,5 @@
 -- The search goes record by record: what is left of it is what the definitions say of the records that are left.
-use Prim.Native.Nat.{◌+◌, ◌-◌, ◌≤◌}
+use Prim.Native.Nat.{◌+◌}
 use mathlib.Core.Path.{◌≡◌}
 use lib.ListN.{drop}
 use Rattle.state.specs.State.{records_in}
@@ -12,7 +12,4 @@ use Rattle.join.proofs.search.search.Given as goal
 abbrev pub invariant-loop-i : goal.invariant-loop-i
 invariant-loop-i l =
     let rs = records_in (command_in l.words) in
-    (searched l.address l.end (drop l.i rs) l.m ≡ meeting rs l.address l.end) × Counted l.m l.i × (l.m.last ≡ l.i) × (l.i ≤ l.n) × (l.i + looked_up_to l.end (drop l.i rs) ≡ looked_up_to l.end rs)
-
-abbrev pub decreases-loop-i : goal.decreases-loop-i
-decreases-loop-i l = l.n - l.i
+    (searched l.address l.end (drop l.i rs) l.m ≡ meeting rs l.address l.end) × Counted l.m l.i × (l.m.last ≡ l.i) × (l.i + looked_up_to l.end (drop l.i rs) ≡ looked_up_to l.end rs)

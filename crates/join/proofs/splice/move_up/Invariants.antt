@@ -1,4 +1,4 @@
-use Prim.Native.Nat.{◌-◌, ◌≤◌}
+use Prim.Native.Nat.{◌≤◌}
 use mathlib.Core.Path.{◌≡◌}
 use lib.ListN.{length}
 use Rattle.state.specs.Limits.{command_words}
@@ -6,7 +6,4 @@ use Rattle.join.specs.Splice.{MovedUp}
 use Rattle.join.proofs.splice.move_up.Given as goal
 
 abbrev pub invariant-loop-k : goal.invariant-loop-k
-invariant-loop-k l = (l.first ≤ l.k) × (l.k ≤ l.used) × (length l.words ≡ command_words) × MovedUp l.initial.words l.k l.used l.words
-
-abbrev pub decreases-loop-k : goal.decreases-loop-k
-decreases-loop-k l = l.k
+invariant-loop-k l = (l.first ≤ l.k) × (length l.words ≡ command_words) × MovedUp l.initial.words l.k l.used l.words

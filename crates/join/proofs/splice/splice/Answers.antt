@@ -1,6 +1,6 @@
 -- In each case the entries stand where they are wanted, and then the union is written.
 use native.Mathlib.Omega.{arith}
-use Prim.Native.Nat.{ℕ, ◌+◌, ◌-◌, min}
+use Prim.Native.Nat.{ℕ, ◌+◌, min}
 use mathlib.Core.Path.{◌≡◌, refl, subst}
 use Rattle.state.specs.Limits.{record_limit}
 use Rattle.join.specs.Splice.{MovedDown}
@@ -29,7 +29,7 @@ returns c =
     let s = c.seal-2 in
     let words = c.args.words.now in
     let m = c.args.m in
-    let end : c.lesser-end.result ≡ min (u.result + 1) record_limit = omega arith in
+    let end : c.min-end.result ≡ min (u.result + 1) record_limit = omega arith in
     let moved = subst (λ (k : ℕ). MovedDown words (m.first + 1) m.last k down.new.words) end down.ensures in
     let laid = replaces_more words down.new.words s.new.words m c.requires.1 u.result u.ensures.0 s.ensures in
     (laid (omega arith) (omega arith) (omega arith) moved, omega arith)

@@ -35,15 +35,15 @@ returns-then-letter-ne-FETCH c =
     let args = c.args in
     puts_is c.put.ensures (other args.letter args.delivered.now c.if-letter-ne-FETCH.true)
 
-pub returns-then-delivered-eq0 : goal.returns-then-delivered-eq0
-returns-then-delivered-eq0 c =
+pub returns-then-is_empty : goal.returns-then-is_empty
+returns-then-is_empty c =
     let args = c.args in
     let put_word = c.put_word in
     let dash : Puts args.out.now args.at (ascii " -") put_word.result put_word.new.out = put_word.ensures in
-    puts_is dash (nothing args.letter args.delivered.now c.if-letter-ne-FETCH.false c.if-delivered-eq0.true)
+    puts_is dash (nothing args.letter args.delivered.now c.if-letter-ne-FETCH.false (grind arith))
 
 pub returns : goal.returns
 returns c =
     let args = c.args in
     puts_is (puts_both c.put_byte-next.ensures c.put_hex.ensures)
-    (something args.letter args.delivered.now c.if-letter-ne-FETCH.false c.if-delivered-eq0.false)
+    (something args.letter args.delivered.now c.if-letter-ne-FETCH.false (grind arith))

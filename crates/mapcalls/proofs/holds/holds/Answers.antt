@@ -17,5 +17,5 @@ returns c =
     rw (
       sym c.open_or_empty.ensures ∙ c.if-not-open_or_empty.false,
       sym c.clean.ensures ∙ c.if-not-clean.false,
-      c.requires.2,
+      c.requires,
     )

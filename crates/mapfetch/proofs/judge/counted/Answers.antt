@@ -1,9 +1,7 @@
 -- Of the two counts of a span the one is what the other leaves.
-use Prim.Native.Nat.{ℕ, ◌+◌, ◌-◌}
+use Prim.Native.Nat.{◌+◌, ◌-◌}
 use native.Mathlib.Omega.{arith}
-use mathlib.Core.Path.{◌≡◌, ap₂, sym}
-use mathlib.Core.List.{[], ◌∷◌}
-use Rattle.state.specs.Verdict.{replied}
+use mathlib.Core.Path.{◌≡◌, sym}
 use Rattle.bits.specs.Bits.{is_set}
 use Rattle.mapfetch.proofs.Counting.{other_count}
 use Rattle.mapfetch.proofs.judge.counted.Goals as goal
@@ -14,7 +12,7 @@ returns c =
     let size : a.address + a.size - a.address ≡ a.size = omega arith in
     let replayed = rw size at c.count_span-replayed.ensures in
     let fresh = other_count (is_set a.words.now) a.address a.size c.count_span-replayed.result replayed in
-    ap₂ (λ (f r : ℕ). replied (f ∷ r ∷ [])) (sym fresh.0) replayed
+    record { fresh = sym fresh.0; replayed = replayed }
 
 pub overflow_sub-result : goal.overflow_sub-result
 overflow_sub-result c =

@@ -17,7 +17,7 @@ pub returns-then-runs-lt-RECORDS : goal.returns-then-runs-lt-RECORDS
 returns-then-runs-lt-RECORDS c =
     let a = c.args in
     sym (le-leb (length (runs_from (λ x. is_set a.words.now x || in_span a.address a.size x) 0 map_limit)) record_limit
-    (omega (arith, runs_added (is_set a.words.now) a.address a.size map_limit, c.requires.1)))
+    (omega (arith, runs_added (is_set a.words.now) a.address a.size map_limit, c.requires.0)))
 
 pub returns : goal.returns
 returns c =

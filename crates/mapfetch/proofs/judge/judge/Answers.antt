@@ -1,7 +1,7 @@
 -- The checks in their order: the first that applies is given. Each test that is passed makes its check false, and the rest decide.
 use Prim.Native.Nat.{ℕ, ◌+◌, ◌≤◌, ◌<◌}
 use native.Mathlib.Omega.{arith}
-use mathlib.Core.Path.{◌≡◌, ap, sym, ◌∙◌}
+use mathlib.Core.Path.{◌≡◌, ap, ap₂, sym, ◌∙◌}
 use mathlib.Core.List.{List, [], ◌∷◌}
 use mathlib.Core.Bool.{true, false, not}
 use lib.Dec.{ltb}
@@ -101,16 +101,16 @@ returns c =
     let four = past_four lent a.window_len a.destination_len a.address a.size (sym c.outside.ensures ∙ c.if-outside.false) (omega arith) in
     let six = past_six lent a.window_len a.destination_len a.address a.size (sym c.holds.ensures ∙ c.if-not-holds.false) (omega arith) in
     let room = more_than record_limit (length (runs_then lent a.address a.size)) ∙ ap not (sym c.has_room.ensures ∙ c.if-not-has_room.false) in
-    c.counted.ensures ∙ sym (two ∙ four ∙ six ∙ rw room)
+    ap₂ (λ (f r : ℕ). replied (f ∷ r ∷ [])) c.counted.ensures.fresh c.counted.ensures.replayed ∙ sym (two ∙ four ∙ six ∙ rw room)
 
 pub has_room-requires : goal.has_room-requires
 has_room-requires c =
     let a = c.args in
     let inside : ltb a.window_len (a.address + a.size) ≡ false = sym c.outside.ensures ∙ c.if-outside.false in
-    (c.requires.0, c.runs-runs.ensures, omega (arith, ltb-false a.window_len (a.address + a.size) inside))
+    (c.runs-runs.ensures, omega (arith, ltb-false a.window_len (a.address + a.size) inside))
 
 pub counted-requires : goal.counted-requires
 counted-requires c =
     let a = c.args in
     let inside : ltb a.window_len (a.address + a.size) ≡ false = sym c.outside.ensures ∙ c.if-outside.false in
-    (c.requires.0, omega (arith, ltb-false a.window_len (a.address + a.size) inside))
+    omega (arith, ltb-false a.window_len (a.address + a.size) inside)

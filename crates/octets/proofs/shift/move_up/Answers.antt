@@ -1,9 +1,9 @@
 use Prim.Native.Nat.{ℕ, suc, ◌+◌, ◌-◌, ◌≤◌, ◌<◌, min}
 use native.Mathlib.Nat.{add-zero, sub-zero}
 use native.Mathlib.Omega.{arith}
-use mathlib.Core.Path.{◌≡◌, refl, ap, sym, ◌∙◌}
+use mathlib.Core.Path.{◌≡◌, ap, sym, ◌∙◌}
 use mathlib.Core.List.{List}
-use lib.ListN.{length, get_or, set, length-take, length-drop, length-set}
+use lib.ListN.{length, get_or, set, length-take, length-drop}
 use lib.Seq.{drop-cons}
 use Rattle.octets.specs.Lists.{overwrite, part}
 use Rattle.octets.proofs.Overwrite.{overwrite_same, overwrite_none, overwrite_below, overwrite_more}
@@ -64,22 +64,20 @@ returns-then-above-by c =
 pub loop-k-init : goal.loop-k-init
 loop-k-init c =
     let args = c.args in
-    let k = c.lesser-k.result in
-    let none : k - k ≡ 0 = omega arith in
-    (omega arith, rw none (sym (overwrite_none args.buffer.now (args.from + args.by + k))), refl)
+    let n = c.min-n.result in
+    let none : n - n ≡ 0 = omega arith in
+    rw none (sym (overwrite_none args.buffer.now (args.from + args.by + n)))
 
 pub loop-k-preserved : goal.loop-k-preserved
 loop-k-preserved c =
     let args = c.args in
-    let stored
-    = store args.buffer.now args.from (args.from + args.by) c.loop-k.k c.lesser-k.result
-    (omega arith) (omega arith) (omega arith) (omega arith) in
-    (omega arith, rw c.loop-k.invariant.1 stored, simp length-set (omega arith))
+    rw c.loop-k.invariant
+    (store args.buffer.now args.from (args.from + args.by) c.loop-k.k c.min-n.result (omega arith) (omega arith) (omega arith) (omega arith))
 
 pub returns : goal.returns
 returns c =
     let args = c.args in
     let none : c.loop-k.k ≡ 0 = omega arith in
-    let most : c.lesser-k.result ≡ min args.count (length args.buffer.now - (args.from + args.by)) =
-    c.lesser-k.ensures ∙ ap (λ (n : ℕ). min args.count n) (both_off (length args.buffer.now) args.from args.by) in
-    rw (c.loop-k.invariant.1, none) (simp (add-zero, sub-zero, most))
+    let most : c.min-n.result ≡ min args.count (length args.buffer.now - (args.from + args.by)) =
+    c.min-n.ensures ∙ ap (λ (n : ℕ). min args.count n) (both_off (length args.buffer.now) args.from args.by) in
+    rw (c.loop-k.invariant, none) (simp (add-zero, sub-zero, most))

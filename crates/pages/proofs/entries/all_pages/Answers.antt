@@ -36,23 +36,19 @@ module _ (bytes : List ℕ) (count : ℕ) where
     right multiple = sym (step ∙ rw (eq-eqb (x % page_size) 0 multiple))
 
 pub loop-i-init : goal.loop-i-init
-loop-i-init c = (omega arith, c.requires, start _ c.args.count)
+loop-i-init c = start _ c.args.count
 
 pub returns-then-address-ne0 : goal.returns-then-address-ne0
 returns-then-address-ne0 c =
     let a = c.args in
     sym (wrong a.bytes.now a.count c.loop-i.i c.entry-address.result (omega arith) c.entry-address.ensures (omega arith))
-    ∙ c.loop-i.invariant.2
+    ∙ c.loop-i.invariant
 
 pub loop-i-preserved : goal.loop-i-preserved
 loop-i-preserved c =
     let a = c.args in
-    let i = c.loop-i.i in (
-      omega arith,
-      c.loop-i.invariant.1,
-      rw add-one
-          (right a.bytes.now a.count i c.entry-address.result (omega arith) c.entry-address.ensures (omega arith) ∙ c.loop-i.invariant.2),
-    )
+    rw add-one
+    (right a.bytes.now a.count c.loop-i.i c.entry-address.result (omega arith) c.entry-address.ensures (omega arith) ∙ c.loop-i.invariant)
 
 pub returns : goal.returns
-returns c = sym (none _ c.args.count c.loop-i.i (omega arith)) ∙ c.loop-i.invariant.2
+returns c = sym (none _ c.args.count c.loop-i.i (omega arith)) ∙ c.loop-i.invariant

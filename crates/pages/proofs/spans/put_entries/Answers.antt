@@ -1,9 +1,9 @@
-use Prim.Native.Nat.{ℕ, suc, ◌-◌, ◌*◌, ◌≤◌, ◌<◌}
+use Prim.Native.Nat.{ℕ, suc, ◌+◌, ◌-◌, ◌*◌, ◌≤◌, ◌<◌}
 use native.Mathlib.Nat.{sub-zero}
 use native.Mathlib.Omega.{arith}
-use mathlib.Core.Path.{◌≡◌, refl, ap, sym, ◌∙◌}
+use mathlib.Core.Path.{◌≡◌, ap, sym, ◌∙◌}
 use mathlib.Core.List.{List}
-use lib.ListN.{length, drop, set, length-set}
+use lib.ListN.{length, drop, set}
 use Rattle.octets.specs.Lists.{overwrite, part}
 use Rattle.octets.proofs.Overwrite.{overwrite_none, overwrite_more}
 use Rattle.endian.specs.LittleEndian.{least_first}
@@ -28,22 +28,17 @@ module _ (list bytes : List ℕ) (count : ℕ) where
   all_put = rw sub-zero
 
 pub loop-i-init : goal.loop-i-init
-loop-i-init c =
-    let a = c.args in
-    (omega arith, c.requires.1, c.requires.0, none a.list.now a.bytes.now a.count, refl)
+loop-i-init c = let a = c.args in none a.list.now a.bytes.now a.count
 
 pub loop-i-preserved : goal.loop-i-preserved
 loop-i-preserved c =
     let a = c.args in
     let i = c.loop-i.i in
-    let room : a.count < length a.list.now = omega arith in
-    let stored : set c.loop-i.list i c.entry.result ≡ with_from a.list.now a.bytes.now a.count (i - 1) =
-    rw (c.loop-i.invariant.3, c.entry.ensures) (one_more a.list.now a.bytes.now a.count i (omega arith) (omega arith) room) in
-    (omega arith, c.loop-i.invariant.1, simp length-set (omega arith), stored, simp length-set (omega arith))
+    let here : i - 1 + 1 ≡ i = omega arith in
+    rw (here, c.loop-i.invariant, c.entry.ensures) (one_more a.list.now a.bytes.now a.count i (omega arith) (omega arith) (omega arith))
 
 pub returns : goal.returns
 returns c =
     let a = c.args in
     let none_left : c.loop-i.i ≡ 0 = omega arith in
-    c.loop-i.invariant.3
-    ∙ ap (with_from a.list.now a.bytes.now a.count) none_left ∙ all_put a.list.now a.bytes.now a.count
+    c.loop-i.invariant ∙ ap (with_from a.list.now a.bytes.now a.count) none_left ∙ all_put a.list.now a.bytes.now a.count

@@ -1,8 +1,8 @@
--- The loop's invariant: the entries from i on stand in the list behind place i, and all else is as it was. The measure is i.
-use Prim.Native.Nat.{ℕ, suc, ◌-◌, ◌*◌, ◌≤◌, ◌<◌}
+-- The loop's invariant: the entries from i on stand in the list behind place i, and all else is as it was.
+use Prim.Native.Nat.{ℕ, suc, ◌-◌, ◌*◌}
 use mathlib.Core.Path.{◌≡◌}
 use mathlib.Core.List.{List}
-use lib.ListN.{length, drop}
+use lib.ListN.{drop}
 use Rattle.octets.specs.Lists.{overwrite}
 use Rattle.prp.specs.Entries.{entries_in}
 use Rattle.pages.proofs.spans.put_entries.Given as goal
@@ -12,12 +12,4 @@ abbrev pub with_from : (list bytes : List ℕ) (count i : ℕ) → List ℕ
 with_from list bytes count i = overwrite list (suc i) (entries_in (count - i) (drop (8 * i) bytes))
 
 abbrev pub invariant-loop-i : goal.invariant-loop-i
-invariant-loop-i l =
-    (l.i ≤ l.count)
-    × (8 * l.count ≤ length l.bytes)
-    × (l.count < length l.list)
-    × (l.list ≡ with_from l.initial.list l.bytes l.count l.i)
-    × (length l.list ≡ length l.initial.list)
-
-abbrev pub decreases-loop-i : goal.decreases-loop-i
-decreases-loop-i l = l.i
+invariant-loop-i l = l.list ≡ with_from l.initial.list l.bytes l.count l.i

@@ -1,9 +1,9 @@
 use Prim.Native.Nat.{ℕ, suc, ◌-◌, ◌≤◌, ◌<◌}
 use native.Mathlib.Nat.{sub-zero}
 use native.Mathlib.Omega.{arith}
-use mathlib.Core.Path.{◌≡◌, refl, ap, sym, ◌∙◌}
+use mathlib.Core.Path.{◌≡◌, ap, sym, ◌∙◌}
 use mathlib.Core.List.{List, map}
-use lib.ListN.{length, set, length-set}
+use lib.ListN.{length, set}
 use Rattle.octets.specs.Lists.{overwrite}
 use Rattle.octets.proofs.Overwrite.{overwrite_none, overwrite_more}
 use Rattle.state.specs.Records.{span}
@@ -29,23 +29,17 @@ module _ (list : List ℕ) (share : ℕ → ℕ) (count : ℕ) where
   all_put = rw sub-zero
 
 pub loop-i-init : goal.loop-i-init
-loop-i-init c =
-    let a = c.args in
-    (omega arith, c.requires.0, c.requires.1, none a.list.now (share_in a.offset a.reach) a.count, refl)
+loop-i-init c = let a = c.args in none a.list.now (share_in a.offset a.reach) a.count
 
 pub loop-i-preserved : goal.loop-i-preserved
 loop-i-preserved c =
     let a = c.args in
-    let i = c.loop-i.i in
-    let share = share_in a.offset a.reach in
-    let room : a.count ≤ length a.list.now = omega arith in
-    let stored : set c.loop-i.list (i - 1) c.share_in.result ≡ with_from a.list.now share a.count (i - 1) =
-    rw (c.loop-i.invariant.3, c.share_in.ensures) (one_more a.list.now share a.count i (omega arith) (omega arith) room) in
-    (omega arith, simp length-set (omega arith), c.loop-i.invariant.2, stored, simp length-set (omega arith))
+    rw (c.loop-i.invariant, c.share_in.ensures)
+    (one_more a.list.now (share_in a.offset a.reach) a.count c.loop-i.i (omega arith) (omega arith) (omega arith))
 
 pub returns : goal.returns
 returns c =
     let a = c.args in
     let share = share_in a.offset a.reach in
     let none_left : c.loop-i.i ≡ 0 = omega arith in
-    c.loop-i.invariant.3 ∙ ap (with_from a.list.now share a.count) none_left ∙ all_put a.list.now share a.count
+    c.loop-i.invariant ∙ ap (with_from a.list.now share a.count) none_left ∙ all_put a.list.now share a.count

@@ -1,8 +1,7 @@
--- The loop's invariant: the lengths from i on stand in their places, and all else is as it was. The measure is i.
-use Prim.Native.Nat.{ℕ, ◌-◌, ◌≤◌}
+-- The loop's invariant: the lengths from i on stand in their places, and all else is as it was.
+use Prim.Native.Nat.{ℕ, ◌-◌}
 use mathlib.Core.Path.{◌≡◌}
 use mathlib.Core.List.{List, map}
-use lib.ListN.{length}
 use Rattle.octets.specs.Lists.{overwrite}
 use Rattle.state.specs.Records.{span}
 use Rattle.prp.specs.Pages.{share_in}
@@ -13,12 +12,4 @@ abbrev pub with_from : (list : List ℕ) (share : ℕ → ℕ) (count i : ℕ) �
 with_from list share count i = overwrite list i (map share (span i (count - i)))
 
 abbrev pub invariant-loop-i : goal.invariant-loop-i
-invariant-loop-i l =
-    (l.i ≤ l.count)
-    × (l.count ≤ length l.list)
-    × (l.count ≤ 17)
-    × (l.list ≡ with_from l.initial.list (share_in l.offset l.reach) l.count l.i)
-    × (length l.list ≡ length l.initial.list)
-
-abbrev pub decreases-loop-i : goal.decreases-loop-i
-decreases-loop-i l = l.i
+invariant-loop-i l = l.list ≡ with_from l.initial.list (share_in l.offset l.reach) l.count l.i

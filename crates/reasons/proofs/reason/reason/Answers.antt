@@ -1,12 +1,13 @@
 -- Each arm knows which case it is, so its text is the definition's at that case.
 use mathlib.Core.Path.{◌≡◌, ap, sym}
 use Rattle.state.specs.declared.refusal.Refusal.{Refusal}
-use Rattle.reasons.specs.Reasons.{reason, padded}
+use Rattle.octets.specs.Text.{ascii}
+use Rattle.reasons.specs.Reasons.{reason}
 use Rattle.reasons.proofs.reason.reason.Goals as goal
 
 -- the text of a refusal that is known to be this case
-of : {r case : Refusal} → r ≡ case → padded (reason case) ≡ padded (reason r)
-of e = sym (ap (λ (x : Refusal). padded (reason x)) e)
+of : {r case : Refusal} → r ≡ case → ascii (reason case) ≡ ascii (reason r)
+of e = sym (ap (λ (x : Refusal). ascii (reason x)) e)
 
 pub returns-in-FrameTooShort : goal.returns-in-FrameTooShort
 returns-in-FrameTooShort c = of c.in-FrameTooShort.is

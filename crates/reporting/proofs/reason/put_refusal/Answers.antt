@@ -7,4 +7,4 @@ use Rattle.reporting.proofs.reason.put_refusal.Goals as goal
 pub returns : goal.returns
 returns c =
     puts_both c.put_reason-next.ensures
-    (puts_both c.put-next.ensures (puts_both (puts_is c.put_decimal-next.ensures (ap decimal (c.wide.ensures.0 ∙ c.number.ensures))) c.put.ensures))
+    (puts_both c.put-next.ensures (puts_both (puts_is c.put_decimal-next.ensures (ap decimal (c.from.ensures ∙ c.number.ensures))) c.put.ensures))

@@ -17,7 +17,9 @@ loop-i-preserved c =
     let on = passed (stops c.args.stop) text c.loop-i.i 0 (omega arith) (sym c.stops.ensures ∙ c.if-stops.false) in
     rw add-one (omega (arith, c.loop-i.invariant, on))
 
+-- the end of the text is reached, or was already behind
 pub returns : goal.returns
 returns c =
+    let test = stops c.args.stop in
     let text = c.args.text.now in
-    omega (arith, c.loop-i.invariant, behind (stops c.args.stop) text c.loop-i.i (omega arith))
+    grind (arith, c.loop-i.invariant, behind test text c.loop-i.i (omega arith), behind test text c.args.from)

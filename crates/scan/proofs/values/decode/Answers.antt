@@ -1,6 +1,6 @@
 use native.Mathlib.Omega.{arith}
 use mathlib.Core.Path.{◌≡◌, sym, ◌∙◌}
-use lib.ListN.{length, length-set}
+use lib.ListN.{length}
 use Rattle.octets.proofs.Overwrite.{overwrite_paste, paste_more}
 use Rattle.scan.specs.Values.{bytes_of}
 use Rattle.scan.proofs.Bytes.{bytes_length, bytes_at}
@@ -11,15 +11,12 @@ loop-i-preserved c =
     let word = c.args.word.now in
     let buffer = c.args.buffer.now in
     let i = c.loop-i.i in
-    let byte = c.pair_value.ensures ∙ sym (bytes_at word i (omega arith)) in (
-      omega arith,
-      rw (c.loop-i.invariant.1, byte) (paste_more buffer (bytes_of word) i 0 (omega arith) (omega (arith, bytes_length word))),
-      simp length-set (omega arith),
-    )
+    let byte = c.pair_value.ensures ∙ sym (bytes_at word i (omega arith)) in
+    rw (c.loop-i.invariant, byte) (paste_more buffer (bytes_of word) i 0 (omega arith) (omega (arith, bytes_length word)))
 
 pub returns : goal.returns
 returns c =
     let word = c.args.word.now in
     let buffer = c.args.buffer.now in
-    let all : c.loop-i.i ≡ c.lesser-n.result = omega arith in
-    rw (c.loop-i.invariant.1, all, c.lesser-n.ensures, ← bytes_length word) (overwrite_paste buffer (bytes_of word) 0 (length buffer))
+    let all : c.loop-i.i ≡ c.min-n.result = omega arith in
+    rw (c.loop-i.invariant, all, c.min-n.ensures, ← bytes_length word) (overwrite_paste buffer (bytes_of word) 0 (length buffer))

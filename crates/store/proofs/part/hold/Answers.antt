@@ -3,23 +3,16 @@ use Prim.Native.Nat.{ℕ, ◌+◌, ◌-◌}
 use native.Mathlib.Omega.{arith}
 use mathlib.Core.Path.{◌≡◌, sym, subst}
 use mathlib.Core.List.{◌++◌}
-use lib.ListN.{length, take, drop, length-take, length-drop}
+use lib.ListN.{take, drop}
 use Rattle.state.specs.Limits.{held_limit}
 use Rattle.state.specs.Join.{replaced}
 use Rattle.state.specs.State.{records_in}
 use Rattle.octets.specs.Lists.{part}
 use Rattle.store.specs.Store.{part_start, packed, from, sees}
-use Rattle.store.specs.Hold.{Fits, repacked}
+use Rattle.store.specs.Hold.{repacked}
 use Rattle.state.specs.Words.{command_in}
 use Rattle.store.proofs.Parts.{repacked_store}
 use Rattle.store.proofs.part.hold.Goals as goal
-
-pub hold-requires : goal.hold-requires
-hold-requires c =
-    let low = c.start-low.result in
-    let p = command_in c.args.words.now in
-    let size : length (take (low + 4096 - low) (drop low c.args.store.now)) ≡ held_limit = simp (length-take, length-drop) (omega arith) in
-    (c.requires.2, subst (λ (n : ℕ). Fits p c.args.m c.args.fresh n c.args.base (length c.args.source.now)) (sym size) c.requires.3, c.requires.4)
 
 pub returns : goal.returns
 returns c =

@@ -8,12 +8,12 @@ use Rattle.stretches.proofs.stretch.alike.Goals as goal
 pub returns-then-bits-eq1 : goal.returns-then-bits-eq1
 returns-then-bits-eq1 c =
     let a = c.args in
-    held_stretch a.bits a.n c.lesser.result (omega arith) c.if-bits-eq1.true c.lesser.ensures
+    held_stretch a.bits a.n c.min.result (omega arith) c.if-bits-eq1.true c.min.ensures
 
 pub returns : goal.returns
 returns c =
     let a = c.args in
-    free_stretch a.bits a.n c.lesser-2.result c.if-bits-eq1.false c.lesser-2.ensures
+    free_stretch a.bits a.n c.min-2.result c.if-bits-eq1.false c.min-2.ensures
 
 pub overflow_cast-bits : goal.overflow_cast-bits
 overflow_cast-bits c = omega (arith, trailing_le 64 (2 ^ 64 - 1 - c.args.bits))

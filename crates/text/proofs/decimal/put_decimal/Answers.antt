@@ -1,9 +1,10 @@
-use Prim.Native.Nat.{ℕ, suc, ◌-◌, ◌/◌, ◌%◌, ◌≤◌, ◌<◌}
+use Prim.Native.Nat.{ℕ, suc, ◌-◌, ◌/◌, ◌%◌, ◌^◌, ◌≤◌, ◌<◌}
 use native.Mathlib.Omega.{arith}
-use mathlib.Core.Path.{◌≡◌, refl, ap, sym, ◌∙◌}
+use mathlib.Core.Path.{◌≡◌, refl, ap, subst, sym, ◌∙◌}
 use mathlib.Core.List.{List, ◌∷◌, ◌++◌, append-nil}
 use lib.ListN.{length, take, drop, set, length-set, length-drop}
 use lib.Seq.{take_all, append_snoc, drop-cons, get_or-set_same, drop-set-lt}
+use Rattle.octets.specs.Text.{Puts}
 use Rattle.text.specs.Decimal.{digit, decimal}
 use Rattle.text.proofs.Putting.{puts_is}
 use Rattle.text.proofs.Digits.{decimal_small, decimal_large, tenth}
@@ -26,36 +27,41 @@ module _ (ds : List ℕ) (start : ℕ) (some : 1 ≤ start) (inside : start ≤ 
         ∙ ap (λ (l : List ℕ). l ++ drop start ds) (sym (decimal_large rest more)) ∙ so_far
 
     -- and its only one
-    only : rest < 10 → length ds ≡ 20 → take (20 - (start - 1)) (drop (start - 1) (set ds (start - 1) (digit rest))) ≡ decimal n
+    only : rest < 10 → length ds ≡ 20 → take (20 - (start - 1)) (drop (start - 1) (set ds (start - 1) (digit (rest % 10)))) ≡ decimal n
     only one size =
-        take_all (20 - (start - 1)) (drop (start - 1) (set ds (start - 1) (digit rest))) (simp (length-drop, length-set) (omega arith))
-        ∙ stored (digit rest) ∙ ap (λ (l : List ℕ). l ++ drop start ds) (sym (decimal_small rest one)) ∙ so_far
+        let same : rest % 10 ≡ rest = omega arith in
+        take_all (20 - (start - 1)) (drop (start - 1) (set ds (start - 1) (digit (rest % 10)))) (simp (length-drop, length-set) (omega arith))
+        ∙ stored (digit (rest % 10))
+        ∙ ap (λ (d : ℕ). digit d ∷ drop start ds) same
+        ∙ ap (λ (l : List ℕ). l ++ drop start ds) (sym (decimal_small rest one)) ∙ so_far
 
-pub loop-rest-init : goal.loop-rest-init
-loop-rest-init c = (omega arith, omega arith, omega arith, refl, append-nil (decimal c.args.n))
+pub loop-start-init : goal.loop-start-init
+loop-start-init c = record { digits = append-nil (decimal c.args.n); size = refl; room = omega arith; some = omega arith; out = refl }
 
-pub loop-rest-preserved : goal.loop-rest-preserved
-loop-rest-preserved c =
-    let l = c.loop-rest in
-    let less = tenth l.start l.rest (omega arith) l.invariant.2 in (
-      less.0,
-      omega arith,
-      less.1,
-      simp length-set (omega arith),
-      rw c.digit.ensures (last l.digits l.start l.invariant.0 (omega arith) c.args.n l.rest l.invariant.4 (omega arith)),
-    )
+pub loop-start-preserved : goal.loop-start-preserved
+loop-start-preserved c =
+    let l = c.loop-start in
+    let i = l.invariant in
+    let less = tenth l.start l.rest (omega arith) i.room in
+    record {
+      digits = rw c.digit.ensures (last l.digits l.start (omega arith) (omega arith) c.args.n l.rest i.digits (omega arith));
+      size = simp length-set i.size;
+      room = less.1;
+      some = omega arith;
+      out = i.out;
+    }
 
-pub slice_bounds-put-end : goal.slice_bounds-put-end
-slice_bounds-put-end c =
-    let l = c.loop-rest in
-    let size : 20 ≤ length (set l.digits (l.start - 1) c.digit-2.result) = simp length-set (omega arith) in
-    size
+pub unreachable-requires : goal.unreachable-requires
+unreachable-requires c =
+    let l = c.loop-start in
+    let none : l.start ≡ 0 = omega arith in
+    let zero : l.rest < 10 ^ 0 = subst (λ (k : ℕ). l.rest < 10 ^ k) none l.invariant.room in
+    omega arith
 
-pub returns : goal.returns
-returns c =
-    let digit2 = c.digit-2 in
-    let l = c.loop-rest in
+pub returns-then-rest-lt10 : goal.returns-then-rest-lt10
+returns-then-rest-lt10 c =
+    let l = c.loop-start in
     let n = c.args.n in
-    let text : take (20 - (l.start - 1)) (drop (l.start - 1) (set l.digits (l.start - 1) digit2.result)) ≡ decimal n =
-    rw digit2.ensures (only l.digits l.start l.invariant.0 (omega arith) n l.rest l.invariant.4 (omega arith) l.invariant.3) in
-    puts_is c.put.ensures text
+    let text : take (20 - (l.start - 1)) (drop (l.start - 1) (set l.digits (l.start - 1) c.digit.result)) ≡ decimal n =
+    rw c.digit.ensures (only l.digits l.start (omega arith) (omega arith) n l.rest l.invariant.digits (omega arith) l.invariant.size) in
+    subst (λ (out : List ℕ). Puts out c.args.at (decimal n) c.put.result c.put.new.out) l.invariant.out (puts_is c.put.ensures text)

@@ -58,29 +58,25 @@ slice_bounds-put_pairs-end-2 c = simp length-take (omega arith)
 pub put_pairs-requires : goal.put_pairs-requires
 put_pairs-requires c = simp (length-take, length-drop) (omega arith)
 
-pub returns-then-whole-bytes : goal.returns-then-whole-bytes
-returns-then-whole-bytes c =
-    let out_given : List ℕ = c.args.out.now in
-    let bytes_given : List ℕ = c.args.bytes.now in
-    let whole_found : ℕ = c.lesser-whole.result in
-    let inside_out : c.args.at < length out_given = omega arith in
-    let out_left : List ℕ = back out_given bytes_given c.args.at whole_found inside_out c.lesser-whole.ensures c.put_pairs.new.out in
-    let pairs_put : Puts out_given c.args.at (hexadecimal (take whole_found bytes_given)) (c.args.at + 2 * whole_found) out_left = paired out_given bytes_given c.args.at whole_found inside_out c.lesser-whole.ensures c.put_pairs.new.out
-    c.put_pairs.ensures in
-    one_cut (out_given) (bytes_given) c.args.at (whole_found) (inside_out) c.lesser-whole.ensures
-    (omega arith)
-    (pairs_put)
-    c.put_pair.ensures
+pub returns-in-Some : goal.returns-in-Some
+returns-in-Some c =
+    let out = c.args.out.now in
+    let bytes = c.args.bytes.now in
+    let at = c.args.at in
+    let whole = c.min-whole.result in
+    let inside = c.if-out-at.false in
+    let is = c.min-whole.ensures in
+    let pairs_put = paired out bytes at whole inside is c.put_pairs.new.out c.put_pairs.ensures in
+    let there = c.in-Some.ensures.lookup.3 in
+    one_cut out bytes at whole inside is there.0 pairs_put (puts_is c.put_pair.ensures (ap hex_pair (there.1 0)))
 
-pub returns : goal.returns
-returns c =
-    let out_given : List ℕ = c.args.out.now in
-    let bytes_given : List ℕ = c.args.bytes.now in
-    let whole_found : ℕ = c.lesser-whole.result in
-    let inside_out : c.args.at < length out_given = omega arith in
-    let out_left : List ℕ = back out_given bytes_given c.args.at whole_found inside_out c.lesser-whole.ensures c.put_pairs.new.out in
-    let pairs_put : Puts out_given c.args.at (hexadecimal (take whole_found bytes_given)) (c.args.at + 2 * whole_found) out_left = paired out_given bytes_given c.args.at whole_found inside_out c.lesser-whole.ensures c.put_pairs.new.out
-    c.put_pairs.ensures in
-    all_put (out_given) (bytes_given) c.args.at (whole_found) (inside_out) c.lesser-whole.ensures
-    (omega arith)
-    (pairs_put)
+pub returns-in-None : goal.returns-in-None
+returns-in-None c =
+    let out = c.args.out.now in
+    let bytes = c.args.bytes.now in
+    let at = c.args.at in
+    let whole = c.min-whole.result in
+    let inside = c.if-out-at.false in
+    let is = c.min-whole.ensures in
+    let pairs_put = paired out bytes at whole inside is c.put_pairs.new.out c.put_pairs.ensures in
+    all_put out bytes at whole inside is c.in-None.ensures.lookup.3 pairs_put

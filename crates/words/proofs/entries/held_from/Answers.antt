@@ -1,4 +1,4 @@
-use Prim.Native.Nat.{◌+◌, ◌-◌}
+use Prim.Native.Nat.{◌+◌}
 use native.Mathlib.Omega.{arith}
 use mathlib.Core.Path.{◌≡◌, ap, sym, ◌∙◌}
 use mathlib.Core.List.{◌∷◌}
@@ -18,7 +18,7 @@ loop-i-preserved c =
     let p = command_in ws in
     let i = c.loop-i.i in
     let next : drop i (records_in p) ≡ get_or p.records i no_record ∷ drop (i + 1) (records_in p) = next_record p i (omega arith) in
-    let is = c.entry-r.ensures ∙ sym (entry_at ws i (omega arith)) in
+    let is = c.entry.ensures ∙ sym (entry_at ws i (omega arith)) in
     omega (arith, ap total next, ap (λ (r : Record). r.len) is)
 
 pub returns : goal.returns

@@ -1,5 +1,5 @@
 -- The sum so far and the total of the records still to come are the total wanted.
-use Prim.Native.Nat.{◌+◌, ◌*◌, ◌-◌, ◌≤◌}
+use Prim.Native.Nat.{◌+◌, ◌*◌, ◌≤◌}
 use mathlib.Core.Path.{◌≡◌}
 use lib.ListN.{drop}
 use Rattle.state.specs.Records.{total}
@@ -9,6 +9,3 @@ use Rattle.words.proofs.entries.held_from.Given as goal
 
 abbrev pub invariant-loop-i : goal.invariant-loop-i
 invariant-loop-i l = (l.sum + total (drop l.i (records_in (command_in l.words))) ≡ total (drop l.from (records_in (command_in l.words)))) × (l.sum ≤ 65536 * l.i)
-
-abbrev pub decreases-loop-i : goal.decreases-loop-i
-decreases-loop-i l = l.n - l.i

@@ -1,9 +1,0 @@
--- The call's own equation, with its answer as a reply.
-use mathlib.Core.Path.{ap, ◌∙◌}
-use Rattle.replies.specs.Replies.{fetched_of}
-use Rattle.doorclover.proofs.map.doorclover_map_fetch.Goals as goal
-
-pub returns : goal.returns
-returns c =
-    let e = c.fetch.ensures in
-    record { answer = c.map_fetch_reply.ensures ∙ ap fetched_of e.answer; map = e.map; delivered = e.delivered }
