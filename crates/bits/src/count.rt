@@ -7,7 +7,7 @@ ghost use Rattle.bits.specs.Bits.{map_limit, is_set, ones_of};
 use super::WORDS;
 use super::each::{span_bits, tally};
 
-// The ones of all words.
+// The ones of all words. Of a span the words are masked, and only some are looked at: one function for both would be no plainer.
 pub fn ones(words: &[u64; WORDS]) -> usize
     ensures { result ≡ ones_of words.now }
 {

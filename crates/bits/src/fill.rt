@@ -8,7 +8,7 @@ use super::WORDS;
 use super::each::span_bits;
 
 // Whether no bit is set. The words are joined by a bitwise or, with no test before the end, so that several are looked at in one
-// instruction.
+// instruction. (One line for a width: a function over the width would need a trait with a law of `|`, which is no plainer.)
 pub fn all_zero(words: &[u64]) -> bool
     ensures { result ≡ all_zero words.now }
 {

@@ -5,7 +5,7 @@
 use loglines::Numbers;
 use state::Refusal;
 
-// How many bytes the frame took up (none if it is unreadable), its letter, the answer, and how many bytes were delivered to the front
+// How many bytes the frame took up (0 if it is unreadable, as the definition `Carries` has it), its letter, the answer, and how many bytes were delivered to the front
 // of the destination.
 #[derive(Clone, Copy)]
 pub struct Carried {

@@ -7,7 +7,7 @@ ghost use Rattle.entry.specs.Logs.{Logs};
 use execution::carry_out;
 use state::CacheState;
 
-// How many bytes the frame took up (none if it is unreadable), whether it was accepted, and the place behind its line.
+// How many bytes the frame took up (0 if it is unreadable, as the definition `Logs` has it), whether it was accepted, and the place behind its line.
 #[derive(Drop)]
 pub struct Logged {
     pub taken: usize,

@@ -61,7 +61,8 @@ fn ask<R: Env + Files, O: Write, E: Write>(
     )
 }
 
-// The input is frames, or a line of it is a step.
+// The input is frames, or a line of it is a step: the command line says so once. (A closure in place of the word would be handed on in the same
+// way, which is no plainer.)
 fn read<R: Read + Drop, O: Write, E: Write>(
     streams: &mut Streams<O, E>,
     mut from: R,

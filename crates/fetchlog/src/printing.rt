@@ -14,7 +14,7 @@ use std::io::Write;
 // Room for the longest line.
 pub(crate) const LINE: usize = 8448;
 
-// How many bytes a frame took up (none if it is unreadable), whether it was accepted, how many bytes its line has, and whether all of
+// How many bytes a frame took up (0 if it is unreadable, as the definition `Shows` has it), whether it was accepted, how many bytes its line has, and whether all of
 // them were written.
 #[derive(Drop)]
 pub struct Shown {

@@ -20,7 +20,7 @@ fn number(word: &[u8], next: usize) -> Field
     Field { value, next }
 }
 
-// A field that is not wanted: nothing is read.
+// A field that is not wanted: nothing is read, and its number is 0, as the definition `absent` has it.
 fn absent(at: usize) -> Field
     ensures { result ≡ absent at }
 {

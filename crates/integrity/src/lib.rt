@@ -68,7 +68,7 @@ fn records_hold(words: &[u16], n: usize) -> bool
 }
 
 // Whether all words are zero. They are joined by a bitwise or, with no test before the end, so that many are looked at in one
-// instruction.
+// instruction. (One line for a width: a function over the width would need a trait with a law of `|`, which is no plainer.)
 fn all_zero(words: &[u16]) -> bool
     ensures { result ≡ all_zero words.now }
 {

@@ -5,11 +5,12 @@ ghost use Rattle.bytemap.specs.Map.{map_of};
 ghost use Rattle.bytemap.specs.Begin.{begin_says, Begins};
 
 use crate::ByteMap;
-use crate::holds::holds;
+use crate::holds::whole;
 use crate::reset::reset;
 use state::Refusal;
 
 // The half that judges: the first check that applies is given.
+#[tactic(auto, unfolding(bytemap::specs::Begin::begin_says, state::specs::Verdict::verdict))]
 fn judge(
     flag: u64,
     words: &[u64; ByteMap::WORDS],
@@ -17,10 +18,7 @@ fn judge(
 ) -> Result<(), Refusal>
     ensures { begin_reply result ≡ begin_says (map_of flag words.now values.now) }
 {
-    let runs = bits::runs(words);
-    if !holds(flag, words, values, runs) {
-        return Err(Refusal::StateBroken);
-    }
+    whole(flag, words, values)?;
     if flag != 0 {
         return Err(Refusal::CommandAlreadyOpen);
     }

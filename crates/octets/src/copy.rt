@@ -7,6 +7,7 @@ pub fn copy_front(buffer: &mut [u8], source: &[u8])
     ensures { buffer.new ≡ overwrite buffer.old 0 (take (length buffer.old) source.now) }
 {
     let n = buffer.len().min(source.len());
+    // A loop of its own: a host's bytes are to be loaded once each, which a copy in bulk need not keep to.
     for i in 0..n {
         buffer[i] = source[i];
     }

@@ -37,6 +37,7 @@ pub struct Meeting {
 // Document 01 (the agreed scope; docs/RULES.md has its rules) calls it the book.
 // Of each command there are 129 words: 0 if it is closed, and else one more than the number of its
 // records; then the start and the length of each of its 64 entries.
+// A state, its store and the buffers of a call are lent each for itself, and the numbers of a span are handed on one by one: so C has them.
 #[derive(Drop)]
 pub struct CacheState {
     pub words: [u16; CacheState::WORDS],

@@ -6,7 +6,7 @@ ghost use Rattle.stretches.specs.Values.{clean, Stretch};
 use crate::stretch::alike;
 
 // Where none is held all values must be zero. They are joined by a bitwise or, with no test before the end, so that many are looked at in one
-// instruction.
+// instruction. (One line for a width: a function over the width would need a trait with a law of `|`, which is no plainer.)
 fn clean_none(values: &[u8]) -> bool
     ensures { result ≡ clean (λ x. false) values.now 0 (length values.now) }
 {

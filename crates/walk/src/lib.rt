@@ -1,5 +1,5 @@
 // The page walk, over NVM Express PRP entries: what is judged before PRP1, the entries gathered, the spans put into the lists, and the scratch
-// zeroed. Every entry of a list comes through the cache.
+// zeroed. Every entry of a list comes through the cache. The addresses and the lengths are two lists, since C lends each by its own address.
 #![tactic(auto)]
 
 mod gather;
