@@ -14,6 +14,15 @@ pub enum Kind {
     OwnWrite = 4,
 }
 
+// The table, a constant for each of its columns, indexed by kind.
+const LETTER: [u8; 5] = [b'B', b'F', b'E', b'H', b'W'];
+
+const COMMAND_ZERO: [bool; 5] = [false, false, false, true, false];
+
+const SPAN_ZERO: [bool; 5] = [true, false, true, false, false];
+
+const HAS_DATA: [bool; 5] = [false, false, false, true, true];
+
 impl Kind {
     // In the order of the table.
     pub const ALL: [Kind; 5] = [
@@ -47,33 +56,27 @@ impl Kind {
     pub fn letter(self) -> u8
         ensures { result ≡ (kind_of (number self)).letter }
     {
-        match self {
-            Kind::Begin => b'B',
-            Kind::Fetch => b'F',
-            Kind::End => b'E',
-            Kind::HostWrite => b'H',
-            Kind::OwnWrite => b'W',
-        }
+        LETTER[self.number()]
     }
 
     // Must the command be zero?
     pub fn command_zero(self) -> bool
         ensures { result ≡ (kind_of (number self)).command_zero }
     {
-        matches!(self, Kind::HostWrite)
+        COMMAND_ZERO[self.number()]
     }
 
     // Must the address and the length be zero?
     pub fn span_zero(self) -> bool
         ensures { result ≡ (kind_of (number self)).span_zero }
     {
-        matches!(self, Kind::Begin | Kind::End)
+        SPAN_ZERO[self.number()]
     }
 
     pub fn has_data(self) -> bool
         ensures { result ≡ (kind_of (number self)).has_data }
     {
-        matches!(self, Kind::HostWrite | Kind::OwnWrite)
+        HAS_DATA[self.number()]
     }
 }
 
