@@ -84,13 +84,16 @@ fn write<O: Write, E: Write>(streams: &mut Streams<O, E>, input: &[u8]) {
     }
 }
 
-// Whether the frame of a line was written, if it has one.
+// Whether the frame of a line was written, if it has one. An empty line costs no call.
 fn write_frame<O: Write, E: Write>(
     streams: &mut Streams<O, E>,
     line: &[u8],
     buffer: &mut [u8],
     frame: &mut [u8],
 ) -> Option<bool> {
+    if line.is_empty() {
+        return None;
+    }
     match steps::frame_of(line, buffer, frame) {
         Ok(Some(size)) => Some(console::tell_if(streams, true, b"framewriter", frame, size)),
         _ => None,

@@ -10,10 +10,11 @@ use Rattle.frames.specs.Write.{write_says}
 use Rattle.frames.proofs.Accepted.{writable, writes}
 use Rattle.fields.specs.declared.Step.{Step}
 use Rattle.std.specs.Prelude.{Some, None, Ok, Err}
-use Rattle.steps.specs.Line.{Meaning, line_means}
+use Rattle.scan.specs.Scan.{before, front}
+use Rattle.steps.specs.Line.{Meaning, is_marked, step_means, text_means, line_means}
 use Rattle.steps.specs.Frame.{answered, data_in, meaning_says}
 use Rattle.script.specs.declared.judging.Judged.{Judged}
-use Rattle.script.specs.Judging.{line_says, counts}
+use Rattle.script.specs.Judging.{line_says, judged, counts}
 
 data_length : (buffer : List ℕ) (step : Step) → length (data_in buffer step) ≡ min step.given (length buffer)
 data_length buffer step = omega (arith, length-take (min step.given (length buffer)) buffer)
@@ -60,3 +61,8 @@ says_small (Ok (Some s)) buffer output = reply_small s.kind s.command s.address 
 pub line_small : (line : List ℕ) → Small 4101 (counts (line_says line))
 unfolding line_says
 line_small line = rw (length-replicate {A = ℕ} 4101 0) at (says_small (line_means line) (replicate 4096 0) (replicate 4101 0))
+
+-- a line of no bytes counts for nothing
+pub empty_counts : counts (line_says []) ≡ judged 0 0 0
+unfolding line_says meaning_says before front step_means text_means is_marked line_means
+empty_counts = refl

@@ -28,7 +28,7 @@ loop-rest-preserved c =
     let some : 0 < length frame = grind (arith, nat_tests) in
     let r = c.log_frame-r.ensures in
     let taken = c.log_frame-r.result.taken in
-    running_turn _ _ _ _ _ _ _ _ _ c.loop-rest.invariant some _ _ r.line (some_read _ r.taken c.if-r-eq0.false) r.taken r.accepted c.from-carried.ensures r.leaves
+    running_turn _ _ _ _ _ _ _ _ _ c.loop-rest.invariant some _ _ r.line (some_read _ r.taken c.if-r-eq0.false) r.taken r.accepted (cc r.accepted) r.leaves
     (take_all _ _ (omega (arith, length-drop taken frame)))
 
 pub returns : goal.returns
