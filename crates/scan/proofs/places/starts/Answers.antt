@@ -1,6 +1,6 @@
 -- The front of the text, as long as the bytes are, is compared with them.
 use Prim.Native.Nat.{ℕ}
-use mathlib.Core.Path.{◌≡◌, refl, ap, ◌∙◌}
+use mathlib.Core.Path.{◌≡◌, refl, ap}
 use mathlib.Core.List.{List, [], ◌∷◌}
 use mathlib.Core.Bool.{Bool, ◌&&◌}
 use lib.Dec.{eqb}
@@ -16,4 +16,4 @@ compared test (x ∷ xs) [] = refl
 compared test (x ∷ xs) (y ∷ ys) = ap (λ r. test x y && r) (compared test xs ys)
 
 pub returns : goal.returns
-returns c = c.starts_with.ensures.value ∙ compared eqb c.args.bytes.now c.args.text.now
+returns c = cc (compared eqb c.args.bytes.now c.args.text.now)
