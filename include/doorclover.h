@@ -64,10 +64,10 @@
  *
  * Stack, in bytes, arguments on it included and the return address not. It was measured on a painted
  * stack, and is not proved. What your memcpy and memset take comes on top.
- *     fresh   0      begin 128      host write  56      frame read   168
- *     show   88      fetch 544      own write  608      frame write   48
- *                    end   176      walk       800      journal     3104
- *     of the byte map: fresh 16, begin 144, fetch 424, own write 424, end 176
+ *     fresh   0      begin 128      host write  88      frame read   104
+ *     show   96      fetch 536      own write  584      frame write   80
+ *                    end   176      walk       792      journal     3016
+ *     of the byte map: fresh 16, begin 128, fetch 368, own write 224, end 160
  * DOORCLOVER_STACK and DOORCLOVER_JOURNAL_STACK are these with some room.
  *
  * Targets: archives for x86-64, AArch64 and RISC-V 64 (rv64gc, lp64d), little-endian, ELF, by the
