@@ -67,7 +67,7 @@
  *     fresh   0      begin 128      host write  88      frame read   104
  *     show   96      fetch 536      own write  584      frame write   80
  *                    end   176      walk       792      journal     3016
- *     of the byte map: fresh 16, begin 128, fetch 368, own write 224, end 160
+ *     of the byte map: fresh 16, begin 128, fetch 368, own write 320, end 160
  * DOORCLOVER_STACK and DOORCLOVER_JOURNAL_STACK are these with some room.
  *
  * Targets: archives for x86-64, AArch64 and RISC-V 64 (rv64gc, lp64d), little-endian, ELF, by the
